@@ -1,3 +1,5 @@
 pub mod Laws
 pub mod Alike
 pub mod Division
+pub mod Message
+pub mod Vectors
