@@ -31,7 +31,7 @@ loop-less c = omega arith
 loop-again : tie.Need-loop-again Inv-loop μ-loop
 loop-again c =
     let l = c .before .before in
-    (c .shift .ensures .1, (omega arith, (omega arith, rw (c .shift .ensures .0) (bits-turn (l .loop .left) (l .loop .q) (l .loop .v) _ (c .before .loop-test .taken) (l .loop .inv .1 .0) (l .loop .inv .1 .1 .1)))))
+    (c .shift .ensures .1, (omega arith, (omega arith, rw (c .shift .ensures .0) (bits-turn (l .loop .left) (l .loop .q) (l .loop .v) _ (omega arith) (l .loop .inv .1 .0) (l .loop .inv .1 .1 .1)))))
 
 returns : tie.Need-returns Inv-loop μ-loop
 returns c = (bits-end (c .before .loop .left) (c .before .loop .q) (c .before .loop .v) _ (omega arith) (c .before .loop .inv .1 .1 .1), c .before .loop .inv .0)

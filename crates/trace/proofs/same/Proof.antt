@@ -1,6 +1,7 @@
 -- `trace::same` meets its contract: up to i the bytes are the same, and what is left decides. Assumes nothing.
 use mathlib.Core.Path.{_≡_, refl}
 use Prim.Native.Nat.{_≤_, _-_}
+use borrow.Author.Needs.{needs}
 use native.Mathlib.Omega.{arith}
 use lib.ListN.{length, drop}
 use Rattle.trace.specs.Check.{alike}
@@ -16,10 +17,10 @@ abbrev μ-loop : tie.MeasureT-loop
 μ-loop x y i₀ i = length x - i
 
 returns : tie.Need-returns Inv-loop μ-loop
-returns c = alike-length (c .before .args .x .now) (c .before .args .y .now) (c .if1 .taken)
+returns c = alike-length (c .before .args .x .now) (c .before .args .y .now) (search needs)
 
 loop-holds : tie.Need-loop-holds Inv-loop μ-loop
-loop-holds c = (omega arith, (c .if1 .left, refl))
+loop-holds c = (omega arith, (omega arith, refl))
 
 shared-slice-read-if2 : tie.Need-shared-slice-read-if2 Inv-loop μ-loop
 shared-slice-read-if2 c = omega arith
@@ -31,7 +32,7 @@ returns-2 : tie.Need-returns-2 Inv-loop μ-loop
 returns-2 c =
     let l = c .before .before .before .before in
     let a = l .before .before .args in
-    alike-differ (a .x .now) (a .y .now) (l .loop .i) _ (omega arith) (omega arith) (c .if2 .taken) (l .loop .inv .1 .1)
+    alike-differ (a .x .now) (a .y .now) (l .loop .i) _ (omega arith) (omega arith) (search needs) (l .loop .inv .1 .1)
 
 add-i : tie.Need-add-i Inv-loop μ-loop
 add-i c = omega arith
@@ -43,7 +44,7 @@ loop-again : tie.Need-loop-again Inv-loop μ-loop
 loop-again c =
     let l = c .before .before .before .before in
     let a = l .before .before .args in
-    (omega arith, (l .loop .inv .1 .0, alike-turn (a .x .now) (a .y .now) (l .loop .i) _ (omega arith) (omega arith) (c .if2 .left) (l .loop .inv .1 .1)))
+    (omega arith, (l .loop .inv .1 .0, alike-turn (a .x .now) (a .y .now) (l .loop .i) _ (omega arith) (omega arith) (omega arith) (l .loop .inv .1 .1)))
 
 returns-3 : tie.Need-returns-3 Inv-loop μ-loop
 returns-3 c =

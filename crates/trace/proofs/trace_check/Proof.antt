@@ -7,7 +7,7 @@ use Rattle.trace.proofs.trace_check.Statement.{statement}
 use Rattle.trace.proofs.trace_check.Tie as tie
 
 returns : tie.Need-returns
-returns c = trace-other (c .before .before .args .s .now) (c .if1 .taken)
+returns c = trace-other (c .before .before .args .s .now) (search needs)
 
 shared-slice-read-good-message : tie.Need-shared-slice-read-good-message
 shared-slice-read-good-message c = search needs
