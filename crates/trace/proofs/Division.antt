@@ -38,7 +38,7 @@ abbrev held : ℕ → List ℕ
 held r = drop 1 (coefficients r)
 
 -- one place of the division
-abbrev placed : List ℕ → List ℕ
+abbrev pub placed : List ℕ → List ℕ
 placed [] = []
 placed (c ∷ p) = drop 1 (cond (eqb c 1) (minus (c ∷ p) divisor) (c ∷ p))
 
@@ -82,7 +82,7 @@ one-place r c n rest h k =
 -- ---- many places
 
 -- the first coefficients agree, and the rest
-cons-same : {x y : ℕ} {p q : List ℕ} → x ≡ y → p ≡ q → x ∷ p ≡ y ∷ q
+pub cons-same : {x y : ℕ} {p q : List ℕ} → x ≡ y → p ≡ q → x ∷ p ≡ y ∷ q
 cons-same d e = rw (d, e)
 
 -- the seven lower coefficients, one place up
