@@ -3,15 +3,14 @@
 use mathlib.Core.Path.{_≡_, refl, sym, ap, _∙_}
 use mathlib.Core.Bool.{Bool, true, false, _&&_, not, false≢true}
 use mathlib.Core.List.{List, [], _∷_, _++_, append-assoc}
-use mathlib.Core.Logic.{_⊎_, inl, inr, ⊎-elim}
-use Prim.Native.Nat.{ℕ, zero, suc, _+_, _*_, _/_, _<_, _≤_}
+use mathlib.Core.Logic.{⊎-elim}
+use Prim.Native.Nat.{ℕ, zero, suc, _+_, _<_, _≤_}
 use native.Mathlib.Nat.{eq-or-lt-of-le}
 use native.Mathlib.Omega.{arith}
 use lib.ListN.{length}
 use Rattle.laws.proofs.Tests.{and-left, and-right}
 use Rattle.settings.specs.Settings.{labelRefused, traceRefused}
-use Rattle.trace.specs.Check.{alike}
-use Rattle.trace.proofs.Alike.{alike-same, same-alike}
+use Rattle.trace.proofs.Alike.{alike-same, unlike}
 use Rattle.catalogue.specs.Record.{recordAt, marked, circuitIn, labelIn, traceIn, flagsIn, lengthRefused, circuitRefused, flagsRefused}
 use Rattle.catalogue.specs.Catalogue.{due, recordFaults, faultsFrom, oneTrace, repeatsIn, repeatsFrom, records, faults, firstOf, answerOf, checkOf}
 use Rattle.catalogue.specs.declared.Refusal.{Refusal}
@@ -191,8 +190,6 @@ module _ (s : List ℕ) where
   scan-absent j zero e b h k = absurd (omega arith)
   scan-absent j (suc n) e b h k = absent-more j n (firstOf (repeatsIn s j 0 j)) refl (scan-absent (j + 1) n) e b h k
 
--- ---- the two theorems
-
 -- the test of two traces is their equality
 traces-same : (s : List ℕ) (i j : ℕ) → oneTrace s i j ≡ true → traceAt s i ≡ traceAt s j
 unfolding oneTrace
@@ -200,7 +197,7 @@ traces-same s i j e = alike-same (traceAt s i) (traceAt s j) e
 
 traces-differ : (s : List ℕ) (i j : ℕ) → oneTrace s i j ≡ false → traceAt s i ≡ traceAt s j → ⊥
 unfolding oneTrace
-traces-differ s i j e q = false≢true (sym e ∙ ap (alike (traceAt s i)) (sym q) ∙ same-alike (traceAt s i))
+traces-differ s i j e = unlike (traceAt s i) (traceAt s j) e
 
 -- ---- what passed the rest
 
