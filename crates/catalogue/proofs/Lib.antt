@@ -1,0 +1,4 @@
+pub mod Places
+pub mod Faults
+pub mod Scan
+pub mod Answers
