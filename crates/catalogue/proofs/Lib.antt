@@ -2,3 +2,4 @@ pub mod Places
 pub mod Faults
 pub mod Scan
 pub mod Answers
+pub mod Repeats

@@ -219,13 +219,13 @@ fn find(s: &[u8], n: usize, number: u32) -> Looked
     requires { ⌜ length (now s) ≡ 21 * n ⌝ }
     ensures { λ r. ⌜ r ≡ findFrom (now (s .entry)) number 0 n ⌝ }
 {
-    let mut k = 0;
-    while k < n {
-        let r = record_at(s, k);
+    let mut m = 0;
+    while m < n {
+        let r = record_at(s, m);
         if circuit(r) == number {
             return entry(r);
         }
-        k += 1;
+        m += 1;
     }
     not_found(Refusal::NotListed)
 }

@@ -1,1 +1,6 @@
+pub mod Laws
 pub mod Alike
+pub mod Division
+pub mod Remainder
+pub mod Message
+pub mod Vectors

@@ -10,10 +10,10 @@ use lib.Bits.{bitXor}
 unfoldable pub shifted : ℕ → ℕ → ℕ
 shifted r bit = cond (ltb (r * 2 + bit) 128) (r * 2 + bit) (bitXor (r * 2 + bit - 128) 9)
 
--- the n highest bits of a byte
+-- the n highest bits of a byte; `% 2` changes nothing there, and lets the laws speak of any number
 unfoldable pub bitsIn : ℕ → ℕ → ℕ → ℕ
 bitsIn zero r b = r
-bitsIn (suc n) r b = bitsIn n (shifted r (b / 128)) (b % 128 * 2)
+bitsIn (suc n) r b = bitsIn n (shifted r (b / 128 % 2)) (b % 128 * 2)
 
 -- bytes
 unfoldable pub bytesIn : ℕ → List ℕ → ℕ

@@ -8,10 +8,10 @@ use Rattle.catalogue.proofs.find.Statement.{statement}
 use Rattle.catalogue.proofs.find.Tie as tie
 
 abbrev Inv-loop : tie.InvT-loop
-Inv-loop s n number k₀ k = (k ≤ n) × (findFrom s number k (n - k) ≡ findFrom s number 0 n)
+Inv-loop s n number m₀ m = (m ≤ n) × (findFrom s number m (n - m) ≡ findFrom s number 0 n)
 
 abbrev μ-loop : tie.MeasureT-loop
-μ-loop s n number k₀ k = n - k
+μ-loop s n number m₀ m = n - m
 
 loop-holds : tie.Need-loop-holds Inv-loop μ-loop
 loop-holds c = (omega arith, search find-start)
@@ -28,8 +28,8 @@ entry-requires c κs = search needs
 returns : tie.Need-returns Inv-loop μ-loop
 returns c = search find-hit
 
-add-k : tie.Need-add-k Inv-loop μ-loop
-add-k c = omega arith
+add-m : tie.Need-add-m Inv-loop μ-loop
+add-m c = omega arith
 
 loop-less : tie.Need-loop-less Inv-loop μ-loop
 loop-less c = omega arith
@@ -54,7 +54,7 @@ find-spec =
     circuit-requires
     entry-requires
     returns
-    add-k
+    add-m
     loop-less
     loop-again
     not-found-requires

@@ -1,0 +1,155 @@
+//! How fast the proved code is, as ratios within one run: each row is measured
+//! in turn with what it is compared to, many times over, and the best of each
+//! is kept. Buffers are in the cache. A ratio of 1.50 means half as slow again.
+//!
+//! Links libcard.a and libprobe.a; built and run by bench/run.
+
+#[path = "../second/second.rs"]
+mod second;
+
+use std::hint::black_box;
+use std::time::Instant;
+
+extern "C" {
+    fn card_parity(bytes: *const u8, length: usize) -> u8;
+    fn card_trace_check(bytes: *const u8, length: usize) -> bool;
+    fn card_word_reading(bytes: *const u8, length: usize) -> u16;
+    fn probe_copy(from: *const u8, length: usize, to: *mut u8, room: usize) -> bool;
+    fn probe_check(bytes: *const u8, length: usize) -> u64;
+}
+
+const CONTAINER: usize = 2349;
+const TURNS: usize = 60;
+
+#[inline(never)]
+fn plain_parity(b: &[u8]) -> u8 {
+    b.iter().fold(0, |sum, x| sum ^ x)
+}
+
+#[inline(never)]
+fn plain_copy(from: &[u8], to: &mut [u8]) {
+    for (t, f) in to.iter_mut().zip(from) {
+        *t = *f;
+    }
+}
+
+#[inline(never)]
+fn memcpy(from: &[u8], to: &mut [u8]) {
+    to.copy_from_slice(from);
+}
+
+/// Nanoseconds for one call, over `calls` calls.
+fn once(calls: usize, f: &mut dyn FnMut()) -> f64 {
+    let start = Instant::now();
+    for _ in 0..calls {
+        f();
+    }
+    start.elapsed().as_nanos() as f64 / calls as f64
+}
+
+/// The best of each, taken in turn.
+fn best(calls: usize, rows: &mut [(&str, &mut dyn FnMut())]) -> Vec<f64> {
+    let mut least = vec![f64::INFINITY; rows.len()];
+    for _ in 0..TURNS {
+        for (k, (_, f)) in rows.iter_mut().enumerate() {
+            least[k] = least[k].min(once(calls, *f));
+        }
+    }
+    least
+}
+
+/// A row for each thing that the first is compared to.
+fn show(what: &str, calls: usize, rows: &mut [(&str, &mut dyn FnMut())]) {
+    let times = best(calls, rows);
+    println!("{what}");
+    println!("    {:<44} {:>11.1} ns", rows[0].0, times[0]);
+    for k in 1..rows.len() {
+        println!("    {:<44} {:>11.1} ns   ratio {:.2}", rows[k].0, times[k], times[0] / times[k]);
+    }
+}
+
+/// A good catalogue of n records whose traces agree in their first 11 characters.
+fn catalogue(n: usize) -> Vec<u8> {
+    let mut b = Vec::new();
+    for k in 0..n {
+        b.extend_from_slice(&[0x5A, 0x4D]);
+        b.extend_from_slice(&(k as u16 + 1).to_be_bytes());
+        b.push(0x12);
+        b.extend_from_slice(format!("CIRCUIT-VC-{k:04}").as_bytes());
+        b.push(0x0F);
+    }
+    b
+}
+
+fn main() {
+    let from: Vec<u8> = (0..CONTAINER).map(|i| (i * 31 + 7) as u8).collect();
+    let mut to = vec![0u8; CONTAINER];
+    let mut to2 = vec![0u8; CONTAINER];
+    let mut to3 = vec![0u8; CONTAINER];
+
+    show(
+        "parity of 2349 bytes",
+        2000,
+        &mut [
+            ("proved", &mut || {
+                black_box(unsafe { card_parity(black_box(from.as_ptr()), CONTAINER) });
+            }),
+            ("Rust, a plain loop", &mut || {
+                black_box(plain_parity(black_box(&from)));
+            }),
+        ],
+    );
+    show(
+        "copy of 2349 bytes",
+        2000,
+        &mut [
+            ("proved", &mut || {
+                black_box(unsafe { probe_copy(black_box(from.as_ptr()), CONTAINER, to.as_mut_ptr(), CONTAINER) });
+            }),
+            ("memcpy", &mut || memcpy(black_box(&from), black_box(&mut to2))),
+            ("Rust, a plain loop", &mut || plain_copy(black_box(&from), black_box(&mut to3))),
+        ],
+    );
+    let mut message = vec![second::start_byte(b"03E5           ")];
+    message.extend_from_slice(b"03E5           ");
+    show(
+        "trace check of a good message",
+        500,
+        &mut [
+            ("proved, one register", &mut || {
+                black_box(unsafe { card_trace_check(black_box(message.as_ptr()), 16) });
+            }),
+            ("second program, division of a copy", &mut || {
+                black_box(second::trace_check(black_box(&message)));
+            }),
+        ],
+    );
+    let word = [0x68u8, 0x00];
+    show(
+        "word reading",
+        5000,
+        &mut [
+            ("proved", &mut || {
+                black_box(unsafe { card_word_reading(black_box(word.as_ptr()), 2) });
+            }),
+            ("second program", &mut || {
+                black_box(second::word_reading(black_box(&word)));
+            }),
+        ],
+    );
+    for n in [1usize, 8, 64, 512] {
+        let b = catalogue(n);
+        show(
+            &format!("catalogue check, {n} records that differ late in their traces"),
+            if n == 512 { 2 } else { 200 },
+            &mut [
+                ("proved", &mut || {
+                    black_box(unsafe { probe_check(black_box(b.as_ptr()), b.len()) });
+                }),
+                ("second program", &mut || {
+                    black_box(second::catalogue_check(black_box(&b)).is_ok());
+                }),
+            ],
+        );
+    }
+}

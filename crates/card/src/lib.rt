@@ -1,0 +1,30 @@
+// What the card's host, in C, calls: parity, trace check and word reading on byte slices. include/card.h declares them.
+// These three refuse nothing: each has an answer for every length.
+ghost use mathlib.Core.Path.{_≡_};
+ghost use Rattle.parity.specs.Parity.{parityOf};
+ghost use Rattle.trace.specs.Check.{traceCheck};
+ghost use Rattle.word.specs.Word.{readingOf};
+
+// The exclusive or of all bytes; 00 of none.
+#[no_mangle]
+pub extern "C" fn card_parity(bytes: &[u8]) -> u8
+    ensures { λ r. ⌜ r ≡ parityOf (now (bytes .entry)) ⌝ }
+{
+    parity::parity(bytes)
+}
+
+// Whether the bytes are the 16 of a good trace message.
+#[no_mangle]
+pub extern "C" fn card_trace_check(bytes: &[u8]) -> bool
+    ensures { λ r. ⌜ r ≡ traceCheck (now (bytes .entry)) ⌝ }
+{
+    trace::trace_check(bytes)
+}
+
+// The pointer word in 2 bytes: 4096 times the NDF kind, 1024 times SS, and the value. 0 for any other number of bytes.
+#[no_mangle]
+pub extern "C" fn card_word_reading(bytes: &[u8]) -> u16
+    ensures { λ r. ⌜ r ≡ readingOf (now (bytes .entry)) ⌝ }
+{
+    word::reading(bytes)
+}

@@ -1,0 +1,39 @@
+use Rattle.probe.specs.Probe.{packedCheck}
+use borrow.Author.Needs.{needs}
+use Rattle.probe.proofs.probe_check.Statement.{statement}
+use Rattle.probe.proofs.probe_check.Tie as tie
+
+check-requires : tie.Need-check-requires
+check-requires c κs = search needs
+
+enum-known-n : tie.Need-enum-known-n
+enum-known-n c = search needs
+
+wide-requires : tie.Need-wide-requires
+wide-requires c κs = search needs
+
+enum-known-x : tie.Need-enum-known-x
+enum-known-x c = search needs
+
+pack-refusal-requires : tie.Need-pack-refusal-requires
+pack-refusal-requires c κs = search needs
+
+returns : tie.Need-returns
+unfolding packedCheck
+returns c = simp (c .wide .ensures, ← (c .before .before .before .before .check .ensures), c .before .before .n .given .1)
+
+returns-2 : tie.Need-returns-2
+unfolding packedCheck
+returns-2 c = simp (c .pack-refusal .ensures, ← (c .before .before .before .before .check .ensures), c .before .before .x .given .1)
+
+pub probe-check-spec : {M : Type 1} → statement M
+probe-check-spec =
+    tie.close
+    (tie.spec
+    check-requires
+    enum-known-n
+    wide-requires
+    enum-known-x
+    pack-refusal-requires
+    returns
+    returns-2)

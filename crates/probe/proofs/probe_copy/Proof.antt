@@ -1,0 +1,21 @@
+use mathlib.Core.Path.{refl, sym}
+use Rattle.laws.proofs.Tests.{tests}
+use borrow.Author.Tests.{ne-eqb, eq-eqb}
+use borrow.Author.Needs.{needs}
+use Rattle.probe.proofs.probe_copy.Statement.{statement}
+use Rattle.probe.proofs.probe_copy.Tie as tie
+
+returns : tie.Need-returns
+returns c = (simp (ne-eqb _ _ (c .if1 .taken)), simp (ne-eqb _ _ (c .if1 .taken)))
+
+copy-requires : tie.Need-copy-requires
+copy-requires c κs = search needs
+
+same-length : tie.Need-same-length
+same-length c = search needs
+
+returns-2 : tie.Need-returns-2
+returns-2 c = let e = c .before .before .before .before .if1 .left in (simp (eq-eqb _ _ e), simp (eq-eqb _ _ e) (c .before .before .copy .ensures))
+
+pub probe-copy-spec : {M : Type 1} → statement M
+probe-copy-spec = tie.close (tie.spec returns copy-requires same-length returns-2)

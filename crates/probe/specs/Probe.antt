@@ -1,0 +1,24 @@
+-- The answers of the catalogue as plain numbers, so that tests and benchmarks in another language can read them.
+use Prim.Native.Nat.{ℕ, _+_, _*_, _%_}
+use mathlib.Core.List.{List}
+use lib.ListN.{getD}
+use Rattle.catalogue.specs.Refusals.{numberOf, placesOf}
+use Rattle.catalogue.specs.declared.Refusal.{Refusal}
+use Rattle.catalogue.specs.declared.Checked.{Checked}
+use Rattle.catalogue.specs.declared.Checked.the-variants.{Good, Refused}
+use Rattle.catalogue.specs.declared.Found.{Found}
+use Rattle.catalogue.specs.declared.Found.the-variants.{Entry, Not}
+
+-- a refusal: its number, then two places of 16 bits each, 0 where there is none
+unfoldable pub packed : Refusal → ℕ
+packed x = numberOf x * 4294967296 + getD (placesOf x) 0 0 % 65536 * 65536 + getD (placesOf x) 1 0 % 65536
+
+-- a good catalogue: the number of its records
+unfoldable pub packedCheck : Checked → ℕ
+packedCheck (Good n) = n
+packedCheck (Refused x) = packed x
+
+-- an entry: the label and the flags
+unfoldable pub packedFound : Found → ℕ
+packedFound (Entry label flags) = label * 256 + flags
+packedFound (Not x) = packed x

@@ -1,0 +1,118 @@
+// For tests and benchmarks only: parts of the card that its host does not call, as functions that Rust and C can link.
+// Enums become numbers by the definitions of specs/Probe.antt. Nothing of the card rests on this crate.
+ghost use mathlib.Core.Path.{_≡_};
+ghost use Prim.Native.Nat.{_+_, _*_, _%_};
+ghost use mathlib.Core.Bool.{cond};
+ghost use lib.Dec.{eqb};
+ghost use lib.ListN.{length};
+ghost use Rattle.trace.specs.Check.{startByte};
+ghost use Rattle.word.specs.Word.{plainWord, invertedWord, inverted};
+ghost use Rattle.catalogue.specs.Catalogue.{checkOf, lookupOf};
+ghost use Rattle.probe.specs.Probe.{packed, packedCheck, packedFound};
+use catalogue::Checked;
+use catalogue::Found;
+use catalogue::Refusal;
+
+// The whole of `src` to `dst` where they are as long; else nothing.
+#[no_mangle]
+pub extern "C" fn probe_copy(src: &[u8], dst: &mut [u8]) -> bool
+    ensures { λ r. ⌜ (r ≡ eqb (length (now (src .entry))) (length (now (dst .entry)))) × (now (dst .exit) ≡ cond (eqb (length (now (src .entry))) (length (now (dst .entry)))) (now (src .entry)) (now (dst .entry))) ⌝ }
+{
+    if src.len() != dst.len() {
+        return false;
+    }
+    copier::copy(src, dst);
+    true
+}
+
+// The start byte that the characters of a trace get.
+#[no_mangle]
+pub extern "C" fn probe_start_byte(characters: &[u8]) -> u8
+    ensures { λ r. ⌜ r ≡ startByte (now (characters .entry)) ⌝ }
+{
+    trace::start_byte(characters)
+}
+
+// The word of a value.
+#[no_mangle]
+pub extern "C" fn probe_plain_word(value: u16) -> u16
+    ensures { λ r. ⌜ r ≡ plainWord value ⌝ }
+{
+    word::plain(value)
+}
+
+// The word of an adjustment.
+#[no_mangle]
+pub extern "C" fn probe_adjusting_word(places: u16, value: u16) -> u16
+    ensures { λ r. ⌜ r ≡ invertedWord places value ⌝ }
+{
+    word::adjusting(places, value)
+}
+
+// How many bits of a word, at some places, differ from an offset's.
+#[no_mangle]
+pub extern "C" fn probe_inverted(places: u16, w: u16, offset: u16) -> u32
+    ensures { λ r. ⌜ r ≡ inverted places w offset ⌝ }
+{
+    word::inverted_at(places, w, offset)
+}
+
+fn wide(x: usize) -> u64
+    ensures { λ r. ⌜ r ≡ x ⌝ }
+{
+    x as u64
+}
+
+fn pack(number: u8, place: usize, second: usize) -> u64
+    ensures { λ r. ⌜ r ≡ number * 4294967296 + place % 65536 * 65536 + second % 65536 ⌝ }
+{
+    number as u64 * 4294967296 + wide(place) % 65536 * 65536 + wide(second) % 65536
+}
+
+fn pack_refusal(x: Refusal) -> u64
+    ensures { λ r. ⌜ r ≡ packed x ⌝ }
+{
+    let n = catalogue::number(x);
+    match x {
+        Refusal::Length => pack(n, 0, 0),
+        Refusal::Mark(p) => pack(n, p, 0),
+        Refusal::Circuit(p) => pack(n, p, 0),
+        Refusal::Label(p) => pack(n, p, 0),
+        Refusal::Trace(p) => pack(n, p, 0),
+        Refusal::Flags(p) => pack(n, p, 0),
+        Refusal::Repeated(later, first) => pack(n, later, first),
+        Refusal::NotListed => pack(n, 0, 0),
+    }
+}
+
+// The check of a catalogue.
+#[no_mangle]
+pub extern "C" fn probe_check(s: &[u8]) -> u64
+    ensures { λ r. ⌜ r ≡ packedCheck (checkOf (now (s .entry))) ⌝ }
+{
+    match catalogue::check(s) {
+        Checked::Good(n) => wide(n),
+        Checked::Refused(x) => pack_refusal(x),
+    }
+}
+
+fn pack_found(f: Found) -> u64
+    ensures { λ r. ⌜ r ≡ packedFound f ⌝ }
+{
+    match f {
+        Found::Entry(label, flags) => label as u64 * 256 + flags as u64,
+        Found::Not(x) => pack_refusal(x),
+    }
+}
+
+// The lookup of a circuit in a catalogue, with the characters of its trace.
+#[no_mangle]
+pub extern "C" fn probe_lookup(s: &[u8], number: u32, characters: &mut [u8; 15]) -> u64
+    ensures { λ r. ⌜ (r ≡ packedFound (lookupOf (now (s .entry)) number .found)) × (now (characters .exit) ≡ lookupOf (now (s .entry)) number .trace) ⌝ }
+{
+    let l = catalogue::lookup(s, number);
+    let t = l.trace;
+    *characters = t;
+    let f = l.found;
+    pack_found(f)
+}

@@ -1,0 +1,90 @@
+/* A small host of the card: reads lines on standard input and answers each on
+ * standard output.
+ *
+ *     parity HEX   ->  parity HH
+ *     check HEX    ->  check 0, or check 1 for a good trace message
+ *     read HEX     ->  read N
+ *
+ * HEX is any number of bytes, two hex digits each, none at all included. A
+ * line that is not understood is answered by `?` and its number, from 1. */
+#include <stdio.h>
+#include <string.h>
+
+#include "card.h"
+
+enum { LONGEST = 4096 }; /* bytes in one line */
+
+static int digit(int c)
+{
+    if (c >= '0' && c <= '9')
+        return c - '0';
+    if (c >= 'A' && c <= 'F')
+        return c - 'A' + 10;
+    if (c >= 'a' && c <= 'f')
+        return c - 'a' + 10;
+    return -1;
+}
+
+/* The bytes that a line's hex digits stand for; -1 if they are not whole bytes. */
+static long bytes_of(const char *hex, uint8_t *bytes)
+{
+    size_t digits = strlen(hex);
+    if (digits % 2 != 0 || digits / 2 > LONGEST)
+        return -1;
+    for (size_t i = 0; i < digits / 2; i++) {
+        int high = digit((unsigned char)hex[2 * i]);
+        int low = digit((unsigned char)hex[2 * i + 1]);
+        if (high < 0 || low < 0)
+            return -1;
+        bytes[i] = (uint8_t)(high * 16 + low);
+    }
+    return (long)(digits / 2);
+}
+
+/* What stands after the word and a blank; NULL if the line has another word. */
+static const char *after(const char *line, const char *word)
+{
+    size_t n = strlen(word);
+    if (strncmp(line, word, n) != 0)
+        return NULL;
+    if (line[n] == '\0')
+        return line + n;
+    return line[n] == ' ' ? line + n + 1 : NULL;
+}
+
+static bool answer(const char *line)
+{
+    static uint8_t bytes[LONGEST];
+    const char *hex;
+    long length;
+
+    if ((hex = after(line, "parity")) != NULL && (length = bytes_of(hex, bytes)) >= 0)
+        printf("parity %02X\n", (unsigned)card_parity(bytes, (size_t)length));
+    else if ((hex = after(line, "check")) != NULL && (length = bytes_of(hex, bytes)) >= 0)
+        printf("check %d\n", card_trace_check(bytes, (size_t)length) ? 1 : 0);
+    else if ((hex = after(line, "read")) != NULL && (length = bytes_of(hex, bytes)) >= 0)
+        printf("read %u\n", (unsigned)card_word_reading(bytes, (size_t)length));
+    else
+        return false;
+    return true;
+}
+
+int main(void)
+{
+    static char line[2 * LONGEST + 16];
+    unsigned long number = 0;
+
+    while (fgets(line, sizeof line, stdin) != NULL) {
+        size_t n = strlen(line);
+        bool whole = n > 0 && line[n - 1] == '\n';
+        number++;
+        if (whole)
+            line[n - 1] = '\0';
+        else
+            for (int c; (c = getchar()) != EOF && c != '\n';)
+                whole = false; /* the rest of a line that is too long */
+        if (!(whole || n + 1 < sizeof line) || !answer(line))
+            printf("? %lu\n", number);
+    }
+    return 0;
+}

@@ -1,0 +1,42 @@
+/* What the path card's library gives its host: parity, trace check and word
+ * reading on bytes. Link with libcard.a (`rt staticlib card` writes it to
+ * target/staticlib/).
+ *
+ * Each function takes a pointer and a length, reads those bytes and nothing
+ * else, writes nothing, keeps nothing, and always returns. None of them
+ * refuses: every length has an answer, given below. The pointer must be to
+ * `length` readable bytes; where `length` is 0 it is not read through, and
+ * may be any pointer but NULL.
+ */
+#ifndef CARD_H
+#define CARD_H
+
+#include <stdbool.h>
+#include <stddef.h>
+#include <stdint.h>
+
+#ifdef __cplusplus
+extern "C" {
+#endif
+
+/* The exclusive or of all bytes, as B3 has it of a container of 2349.
+ * Of no bytes: 00. */
+uint8_t card_parity(const uint8_t *bytes, size_t length);
+
+/* Whether the bytes are a good trace message: a start byte with its top bit
+ * set and the 7-bit check of G.707 (x^7 + x^3 + 1, the start byte taken as
+ * 80), then 15 bytes with top bit 0.
+ * Of any length but 16: false. */
+bool card_trace_check(const uint8_t *bytes, size_t length);
+
+/* The pointer word in H1, H2 taken apart:
+ *     4096 * (NDF kind: 0 neither, 1 normal, 2 enabled) + 1024 * SS + value
+ * The value is the word's ten bits, in range (0 to 782) or not.
+ * Of any length but 2: 0. (So is 00 00 with SS 00: a NDF that is neither.) */
+uint16_t card_word_reading(const uint8_t *bytes, size_t length);
+
+#ifdef __cplusplus
+}
+#endif
+
+#endif

@@ -1,0 +1,102 @@
+//! The second program on the command line: catalogue or bytes on standard
+//! input, the answer on standard output.
+
+mod second;
+
+use std::env;
+use std::io::{self, Read, Write};
+use std::process::ExitCode;
+
+const USAGE: &str = "usage: second list | parity | check | read | lookup N  (bytes on standard input)";
+
+/// All of standard input.
+fn input() -> io::Result<Vec<u8>> {
+    let mut bytes = Vec::new();
+    io::stdin().lock().read_to_end(&mut bytes)?;
+    Ok(bytes)
+}
+
+/// A catalogue from standard input, at most one byte more than the longest.
+fn catalogue() -> io::Result<Vec<u8>> {
+    let most = second::LONGEST_CATALOGUE as u64 + 1;
+    let mut bytes = Vec::new();
+    io::stdin().lock().take(most).read_to_end(&mut bytes)?;
+    Ok(bytes)
+}
+
+/// A decimal number. One too great for any circuit stays too great.
+fn number(text: &str) -> Option<u32> {
+    if text.is_empty() || !text.bytes().all(|digit| digit.is_ascii_digit()) {
+        return None;
+    }
+    Some(text.parse().unwrap_or(u32::MAX))
+}
+
+/// The answer to `lookup`.
+fn lookup_text(bytes: &[u8], circuit: u32) -> String {
+    match second::lookup(bytes, circuit) {
+        Ok(record) => {
+            let trace: String = record
+                .trace
+                .iter()
+                .map(|character| format!("{character:02X}"))
+                .collect();
+            format!("found {:02X} {} {}\n", record.label, trace, record.flags)
+        }
+        Err(refusal) => {
+            let places: String = refusal
+                .places
+                .iter()
+                .map(|place| format!(" {place}"))
+                .collect();
+            format!("refused {}{}\n", refusal.number, places)
+        }
+    }
+}
+
+/// The text for these arguments, or none where they are not understood.
+fn answer(arguments: &[&str]) -> io::Result<Option<Vec<u8>>> {
+    let text = match arguments {
+        ["list"] => second::listing(&catalogue()?),
+        ["parity"] => format!("parity {:02X}\n", second::parity(&input()?)).into_bytes(),
+        ["check"] => format!("check {}\n", u8::from(second::trace_check(&input()?))).into_bytes(),
+        ["read"] => format!("read {}\n", second::word_reading(&input()?)).into_bytes(),
+        ["lookup", text] => match number(text) {
+            Some(circuit) => lookup_text(&catalogue()?, circuit).into_bytes(),
+            None => return Ok(None),
+        },
+        _ => return Ok(None),
+    };
+    Ok(Some(text))
+}
+
+fn run() -> io::Result<ExitCode> {
+    let arguments: Vec<String> = env::args_os()
+        .skip(1)
+        .map(|argument| argument.to_string_lossy().into_owned())
+        .collect();
+    let arguments: Vec<&str> = arguments.iter().map(String::as_str).collect();
+    match answer(&arguments)? {
+        Some(text) => {
+            let mut output = io::stdout().lock();
+            output.write_all(&text)?;
+            output.flush()?;
+            Ok(ExitCode::SUCCESS)
+        }
+        None => {
+            let _ = writeln!(io::stderr(), "{USAGE}");
+            Ok(ExitCode::from(2))
+        }
+    }
+}
+
+fn main() -> ExitCode {
+    match run() {
+        Ok(code) => code,
+        Err(error) => {
+            // Nothing is left to do where this line cannot be written either.
+            let _ = writeln!(io::stderr(), "second: {error}");
+            ExitCode::FAILURE
+        }
+    }
+}

@@ -1,0 +1,834 @@
+//! A second program for the parts of the path card that can be asked in bytes
+//! and numbers: parity, trace check, word reading, the pointer words that the
+//! source writes, and the circuit catalogue with its lookup and listing.
+//!
+//! Written from the rules paper ("01") alone; only two values in the tests,
+//! said there to be published, come from elsewhere. The words in quotation
+//! marks in the comments are the paper's.
+
+// A program that takes this file as a module need not use all of it.
+#![allow(dead_code)]
+#![forbid(unsafe_code)]
+
+// ---------------------------------------------------------------------------
+// Parity
+// ---------------------------------------------------------------------------
+
+/// "the exclusive or of all ... bytes"; "Parity of no bytes is 00".
+pub fn parity(bytes: &[u8]) -> u8 {
+    let mut sum = 0x00;
+    for byte in bytes {
+        sum ^= byte;
+    }
+    sum
+}
+
+// ---------------------------------------------------------------------------
+// Trace
+// ---------------------------------------------------------------------------
+
+/// "x^7 + x^3 + 1", highest power first.
+const DIVISOR: [bool; 8] = [true, false, false, false, true, false, false, true];
+
+/// "remainder of the ... bytes times x^7", "start 0", by long division over
+/// bits. The highest power of the remainder is the highest of the seven bits
+/// ("C1 first").
+fn remainder(bytes: &[u8]) -> u8 {
+    // The dividend: each byte from its top bit down.
+    let mut bits: Vec<bool> = Vec::new();
+    for byte in bytes {
+        for place in (0..8).rev() {
+            bits.push((byte >> place) & 1 == 1);
+        }
+    }
+    let message_bits = bits.len();
+
+    // "times x^7": seven zeros behind the message.
+    bits.extend([false; 7]);
+
+    // Wherever a one leads, the divisor is taken away from there on.
+    for lead in 0..message_bits {
+        if bits[lead] {
+            for (step, divisor_bit) in DIVISOR.iter().enumerate() {
+                bits[lead + step] ^= divisor_bit;
+            }
+        }
+    }
+
+    // What is left stands in the last seven bits.
+    let mut rest = 0;
+    for bit in &bits[message_bits..] {
+        rest = rest * 2 + u8::from(*bit);
+    }
+    rest
+}
+
+/// "a start byte with its top bit set and a 7-bit check", the check being
+/// taken over the 16 bytes with "the start byte taken as 80".
+pub fn start_byte(characters: &[u8; 15]) -> u8 {
+    let mut message = [0x80; 16];
+    message[1..].copy_from_slice(characters);
+    0x80 | remainder(&message)
+}
+
+/// "the trace check says no unless given 16 bytes of a good message"; "a good
+/// message is a start byte, 15 bytes with top bit 0, right check".
+pub fn trace_check(bytes: &[u8]) -> bool {
+    // "unless given 16 bytes"
+    if bytes.len() != 16 {
+        return false;
+    }
+    let start = bytes[0];
+    let mut characters = [0; 15];
+    characters.copy_from_slice(&bytes[1..]);
+
+    // "a start byte with its top bit set"
+    if start & 0x80 == 0 {
+        return false;
+    }
+    // "15 bytes with top bit 0"
+    if characters.iter().any(|byte| byte & 0x80 != 0) {
+        return false;
+    }
+    // "right check"
+    start == start_byte(&characters)
+}
+
+// ---------------------------------------------------------------------------
+// Pointer words
+// ---------------------------------------------------------------------------
+
+/// "ten bits I D I D I D I D I D": all ten, the five I, the five D.
+const VALUE_BITS: u16 = 0b11_1111_1111;
+const I_BITS: u16 = 0b10_1010_1010;
+const D_BITS: u16 = 0b01_0101_0101;
+
+/// "The source writes 0110 and SS 10."
+const SOURCE_NDF_AND_SS: u16 = 0b0110_10 << 10;
+
+/// "neither 0, normal 1, enabled 2".
+fn ndf_kind(ndf: u16) -> u16 {
+    match ndf {
+        // "NDF normal: 0110, 1110, 0010, 0100, 0111."
+        0b0110 | 0b1110 | 0b0010 | 0b0100 | 0b0111 => 1,
+        // "Enabled: 1001, 0001, 1101, 1011, 1000."
+        0b1001 | 0b0001 | 0b1101 | 0b1011 | 0b1000 => 2,
+        // "The other six are neither."
+        _ => 0,
+    }
+}
+
+/// "word reading answers 4096 times the NDF kind ... plus 1024 times SS plus
+/// the value, and 0 unless given 2 bytes".
+pub fn word_reading(bytes: &[u8]) -> u16 {
+    // "0 unless given 2 bytes"
+    if bytes.len() != 2 {
+        return 0;
+    }
+    // "Pointer word (H1, H2): four NDF bits, two SS bits, ten bits"
+    let word = u16::from_be_bytes([bytes[0], bytes[1]]);
+    let ndf = word >> 12;
+    let ss = (word >> 10) & 0b11;
+    let value = word & VALUE_BITS;
+    4096 * ndf_kind(ndf) + 1024 * ss + value
+}
+
+/// The word of a pointer value without adjustment: "0110 and SS 10", then the
+/// value. Only the ten bits of the value are taken.
+pub fn plain_word(value: u16) -> u16 {
+    SOURCE_NDF_AND_SS | (value & VALUE_BITS)
+}
+
+/// "the inverted word in the unit of the adjustment": the value that stood
+/// before the increment, its I bits inverted.
+pub fn increment_word(value: u16) -> u16 {
+    plain_word(value) ^ I_BITS
+}
+
+/// "the inverted word in the unit of the adjustment": the value that stood
+/// before the decrement, its D bits inverted.
+pub fn decrement_word(value: u16) -> u16 {
+    plain_word(value) ^ D_BITS
+}
+
+/// How many "I bits inverted" and how many D bits: those of the word that
+/// differ from the value's.
+pub fn inverted(word: u16, value: u16) -> (u32, u32) {
+    let differing = word ^ value;
+    (
+        (differing & I_BITS).count_ones(),
+        (differing & D_BITS).count_ones(),
+    )
+}
+
+// ---------------------------------------------------------------------------
+// Catalogue
+// ---------------------------------------------------------------------------
+
+/// "records of 21 bytes"
+pub const RECORD_LENGTH: usize = 21;
+/// "at most 512"
+pub const MOST_RECORDS: usize = 512;
+/// "above 10,752" is too long.
+pub const LONGEST_CATALOGUE: usize = RECORD_LENGTH * MOST_RECORDS;
+
+/// "A two-byte mark before each record, 5A 4D"
+const MARK: [u8; 2] = [0x5A, 0x4D];
+
+/// A refusal's number, and the places printed behind it: "the record's place
+/// from 1", for 13 "later, then first", none for 9 and 14.
+#[derive(Debug, Clone, PartialEq, Eq)]
+pub struct Refusal {
+    pub number: u8,
+    pub places: Vec<usize>,
+}
+
+/// What a record says behind its mark: "circuit number", "label", "15 trace
+/// characters", "flags".
+#[derive(Debug, Clone, PartialEq, Eq)]
+pub struct Record {
+    pub circuit: u16,
+    pub label: u8,
+    pub trace: [u8; 15],
+    pub flags: u8,
+}
+
+/// The mark and the fields of one record's 21 bytes.
+fn take_apart(bytes: &[u8; RECORD_LENGTH]) -> ([u8; 2], Record) {
+    let mark = [bytes[0], bytes[1]];
+    // "circuit number (2 bytes, high first ...)"
+    let circuit = u16::from_be_bytes([bytes[2], bytes[3]]);
+    let label = bytes[4];
+    let mut trace = [0; 15];
+    trace.copy_from_slice(&bytes[5..20]);
+    let flags = bytes[20];
+    (
+        mark,
+        Record {
+            circuit,
+            label,
+            trace,
+            flags,
+        },
+    )
+}
+
+/// The refusal number of one record by itself, if it has one: "10, 11, 4, 5,
+/// 12", the first in that order.
+fn record_fault(mark: [u8; 2], record: &Record) -> Option<u8> {
+    // 10: "wrong mark"
+    if mark != MARK {
+        return Some(10);
+    }
+    // 11: "circuit number 0 or above 9999"
+    if record.circuit == 0 || record.circuit > 9999 {
+        return Some(11);
+    }
+    // 4: "listed label 00 or FF"
+    if record.label == 0x00 || record.label == 0xFF {
+        return Some(4);
+    }
+    // 5: "trace character outside 20 to 7E"
+    if record
+        .trace
+        .iter()
+        .any(|character| *character < 0x20 || *character > 0x7E)
+    {
+        return Some(5);
+    }
+    // 12: "flags above 15"
+    if record.flags > 15 {
+        return Some(12);
+    }
+    None
+}
+
+/// All records of a good catalogue in their order, or its refusal: "9, then
+/// record by record 10, 11, 4, 5, 12 with the record's place from 1, then 13".
+fn records(bytes: &[u8]) -> Result<Vec<Record>, Refusal> {
+    // 9: "catalogue length no multiple of 21, or above 10,752"
+    if bytes.len() % RECORD_LENGTH != 0 || bytes.len() > LONGEST_CATALOGUE {
+        return Err(Refusal {
+            number: 9,
+            places: Vec::new(),
+        });
+    }
+
+    // "record by record"
+    let mut good = Vec::new();
+    for (index, chunk) in bytes.chunks_exact(RECORD_LENGTH).enumerate() {
+        let mut record_bytes = [0; RECORD_LENGTH];
+        record_bytes.copy_from_slice(chunk);
+        let (mark, record) = take_apart(&record_bytes);
+        if let Some(number) = record_fault(mark, &record) {
+            return Err(Refusal {
+                number,
+                places: vec![index + 1],
+            });
+        }
+        good.push(record);
+    }
+
+    // 13: "names the earliest later record that repeats a trace, with the
+    // first record that has it". All 15 characters count, spaces too.
+    for later in 0..good.len() {
+        for first in 0..later {
+            if good[first].trace == good[later].trace {
+                return Err(Refusal {
+                    number: 13,
+                    places: vec![later + 1, first + 1],
+                });
+            }
+        }
+    }
+
+    // "An empty file is a good catalogue of none."
+    Ok(good)
+}
+
+/// The number of records of a good catalogue, or its refusal.
+pub fn catalogue_check(bytes: &[u8]) -> Result<usize, Refusal> {
+    records(bytes).map(|good| good.len())
+}
+
+/// "Lookup gives the first record with the number." "Lookup checks the
+/// catalogue first; any number not in it is 14."
+pub fn lookup(bytes: &[u8], circuit: u32) -> Result<Record, Refusal> {
+    for record in records(bytes)? {
+        if u32::from(record.circuit) == circuit {
+            return Ok(record);
+        }
+    }
+    // 14: "circuit not listed"
+    Err(Refusal {
+        number: 14,
+        places: Vec::new(),
+    })
+}
+
+/// The text of the listing program for this catalogue.
+pub fn listing(bytes: &[u8]) -> Vec<u8> {
+    let mut text = Vec::new();
+    match records(bytes) {
+        Ok(good) => {
+            text.extend_from_slice(b"circuit label trace flags\n");
+            for record in good {
+                // "number decimal, label two capital hex digits, trace as it
+                // stands, flags decimal"
+                text.extend_from_slice(format!("{} {:02X} [", record.circuit, record.label).as_bytes());
+                text.extend_from_slice(&record.trace);
+                text.extend_from_slice(format!("] {}\n", record.flags).as_bytes());
+            }
+        }
+        Err(refusal) => {
+            // "A refused file prints one line: its number, then the place (13:
+            // later, then first; 9: none)."
+            text.extend_from_slice(refusal.number.to_string().as_bytes());
+            for place in refusal.places {
+                text.extend_from_slice(format!(" {place}").as_bytes());
+            }
+            text.push(b'\n');
+        }
+    }
+    text
+}
+
+// ---------------------------------------------------------------------------
+// Facts the paper states
+// ---------------------------------------------------------------------------
+
+#[cfg(test)]
+mod tests {
+    use super::*;
+
+    /// 15 characters, "padded with spaces".
+    fn padded(text: &[u8]) -> [u8; 15] {
+        let mut trace = [b' '; 15];
+        trace[..text.len()].copy_from_slice(text);
+        trace
+    }
+
+    fn record(circuit: u16, label: u8, trace: &[u8], flags: u8) -> Vec<u8> {
+        let mut bytes = vec![0x5A, 0x4D];
+        bytes.extend_from_slice(&circuit.to_be_bytes());
+        bytes.push(label);
+        bytes.extend_from_slice(&padded(trace));
+        bytes.push(flags);
+        bytes
+    }
+
+    /// Good records with circuit numbers from 1 and a trace each.
+    fn good(count: usize) -> Vec<u8> {
+        let mut bytes = Vec::new();
+        for number in 1..=count {
+            bytes.extend(record(
+                number as u16,
+                0x12,
+                format!("T{number}").as_bytes(),
+                0x0F,
+            ));
+        }
+        bytes
+    }
+
+    fn refused(number: u8, places: &[usize]) -> Refusal {
+        Refusal {
+            number,
+            places: places.to_vec(),
+        }
+    }
+
+    fn message(characters: &[u8; 15]) -> Vec<u8> {
+        let mut bytes = vec![start_byte(characters)];
+        bytes.extend_from_slice(characters);
+        bytes
+    }
+
+    /// A plain row of numbers without pattern, for inputs of every kind.
+    fn next(seed: &mut u32) -> u32 {
+        *seed = seed.wrapping_mul(1_664_525).wrapping_add(1_013_904_223);
+        *seed >> 8
+    }
+
+    // Parity
+
+    #[test]
+    fn parity_of_no_bytes_is_00() {
+        assert_eq!(parity(&[]), 0x00);
+    }
+
+    #[test]
+    fn parity_is_the_exclusive_or() {
+        assert_eq!(parity(&[0xA7]), 0xA7);
+        assert_eq!(parity(&[0xF0, 0x3C, 0x01]), 0xCD);
+        assert_eq!(parity(&[0xFF; 2349]), 0xFF);
+        assert_eq!(parity(&[0xFF; 2358]), 0x00);
+    }
+
+    // Trace
+
+    #[test]
+    fn remainders_of_the_polynomial() {
+        assert_eq!(remainder(&[]), 0);
+        // x^7 itself leaves x^3 + 1.
+        assert_eq!(remainder(&[0x01]), 0x09);
+        // The divisor's own bits leave nothing.
+        assert_eq!(remainder(&[0x89]), 0);
+        // Published remainders of x^7 + x^3 + 1 with start 0.
+        assert_eq!(remainder(b"123456789"), 0x75);
+        assert_eq!(remainder(&[0x40, 0x00, 0x00, 0x00, 0x00]), 0x4A);
+    }
+
+    #[test]
+    fn start_byte_of_fifteen_zero_bytes() {
+        // x^127 leaves 1, so 80 and 15 times 00 leave what x^7 leaves.
+        assert_eq!(start_byte(&[0x00; 15]), 0x89);
+    }
+
+    #[test]
+    fn start_byte_has_its_top_bit_set_and_the_message_is_good() {
+        let mut seed = 1;
+        for _ in 0..500 {
+            let mut characters = [0; 15];
+            for character in &mut characters {
+                *character = 0x20 + (next(&mut seed) % 0x5F) as u8;
+            }
+            assert_eq!(start_byte(&characters) & 0x80, 0x80);
+            assert!(trace_check(&message(&characters)));
+        }
+    }
+
+    #[test]
+    fn sixteen_bytes_with_one_bit_wrong_are_no_good_message() {
+        let bytes = message(&padded(b"03E5"));
+        assert!(trace_check(&bytes));
+        for place in 0..16 {
+            for bit in 0..8 {
+                let mut wrong = bytes.clone();
+                wrong[place] ^= 1 << bit;
+                assert!(!trace_check(&wrong));
+            }
+        }
+    }
+
+    #[test]
+    fn trace_check_asks_only_for_top_bit_0() {
+        assert!(trace_check(&message(&[0x00; 15])));
+        assert!(trace_check(&message(&[0x7F; 15])));
+        let mut high = [b'A'; 15];
+        high[7] = 0x80;
+        assert!(!trace_check(&message(&high)));
+    }
+
+    #[test]
+    fn trace_check_says_no_unless_given_16_bytes() {
+        let bytes = message(&padded(b"03E5"));
+        assert!(!trace_check(&[]));
+        assert!(!trace_check(&bytes[..15]));
+        assert!(!trace_check(&bytes[1..]));
+        let mut longer = bytes.clone();
+        longer.push(b' ');
+        assert!(!trace_check(&longer));
+        let twice = [bytes.clone(), bytes].concat();
+        assert!(!trace_check(&twice));
+    }
+
+    // Pointer words
+
+    #[test]
+    fn word_reading_of_each_ndf() {
+        for ndf in 0..16u16 {
+            let kind = match ndf {
+                0b0110 | 0b1110 | 0b0010 | 0b0100 | 0b0111 => 1,
+                0b1001 | 0b0001 | 0b1101 | 0b1011 | 0b1000 => 2,
+                _ => 0,
+            };
+            for ss in 0..4 {
+                for value in 0..1024 {
+                    let word = (ndf << 12) | (ss << 10) | value;
+                    assert_eq!(
+                        word_reading(&word.to_be_bytes()),
+                        4096 * kind + 1024 * ss + value
+                    );
+                }
+            }
+        }
+        let kinds: Vec<u16> = (0..16).map(ndf_kind).collect();
+        let of = |kind| kinds.iter().filter(|each| **each == kind).count();
+        assert_eq!((of(0), of(1), of(2)), (6, 5, 5));
+    }
+
+    #[test]
+    fn word_reading_is_0_unless_given_2_bytes() {
+        assert_eq!(word_reading(&[]), 0);
+        assert_eq!(word_reading(&[0x68]), 0);
+        assert_eq!(word_reading(&[0x68, 0x00, 0x00]), 0);
+        assert_eq!(word_reading(&[0x68, 0x00]), 4096 + 2048);
+        assert_eq!(word_reading(&[0xFF, 0xFF]), 4095);
+    }
+
+    #[derive(Debug, PartialEq, Eq)]
+    enum Taken {
+        Plain,
+        Increment(u16),
+        Decrement(u16),
+        NewData(u16),
+        Invalid,
+    }
+
+    /// Rules 2, 4 and 6 for a first word in the normal state, wait passed.
+    fn taken(offset: u16, word: u16) -> Taken {
+        let reading = word_reading(&word.to_be_bytes());
+        let kind = reading / 4096;
+        let ss = reading / 1024 % 4;
+        let value = reading % 1024;
+        if kind == 2 && ss == 2 && value <= 782 {
+            return Taken::NewData(value);
+        }
+        if kind == 1 && ss == 2 {
+            if value == offset {
+                return Taken::Plain;
+            }
+            let (i, d) = inverted(word, offset);
+            if i >= 3 && d <= 2 {
+                return Taken::Increment(if offset == 782 { 0 } else { offset + 1 });
+            }
+            if d >= 3 && i <= 2 {
+                return Taken::Decrement(if offset == 0 { 782 } else { offset - 1 });
+            }
+        }
+        Taken::Invalid
+    }
+
+    #[test]
+    fn the_table_of_pointer_words() {
+        assert_eq!(taken(0, 0x6800), Taken::Plain); // P1
+        assert_eq!(taken(0, 0x6AAA), Taken::Increment(1)); // P2
+        assert_eq!(taken(0, 0x6955), Taken::Decrement(782)); // P3
+        assert_eq!(taken(782, 0x69A4), Taken::Increment(0)); // P4
+        assert_eq!(taken(1, 0x6954), Taken::Decrement(0)); // P5
+        assert_eq!(taken(782, 0x6800), Taken::Increment(0)); // P6
+        assert_eq!(taken(0, 0x6B0F), Taken::Invalid); // P7
+        assert_eq!(taken(0, 0x6C00), Taken::Invalid); // P8
+        assert_eq!(taken(0, 0x7800), Taken::Plain); // P9
+        assert_eq!(taken(0, 0x0800), Taken::Invalid); // P10
+        assert_eq!(taken(5, 0x9800), Taken::NewData(0)); // P11
+        assert_eq!(taken(5, 0x1801), Taken::NewData(1)); // P12
+    }
+
+    #[test]
+    fn the_words_of_the_source_in_the_table() {
+        assert_eq!(plain_word(0), 0x6800); // P1
+        assert_eq!(increment_word(0), 0x6AAA); // P2
+        assert_eq!(decrement_word(0), 0x6955); // P3
+        assert_eq!(increment_word(782), 0x69A4); // P4
+        assert_eq!(decrement_word(1), 0x6954); // P5
+    }
+
+    #[test]
+    fn the_reasons_in_the_table() {
+        // P7: "783; three I, three D"
+        assert_eq!(word_reading(&[0x6B, 0x0F]), 4096 + 2048 + 783);
+        assert_eq!(inverted(0x6B0F, 0), (3, 3));
+        // P8: "SS"
+        assert_eq!(word_reading(&[0x6C, 0x00]), 4096 + 3 * 1024);
+        // P10: "NDF"
+        assert_eq!(word_reading(&[0x08, 0x00]), 2048);
+        // P6: at least three I, at most two D
+        assert_eq!(inverted(0x6800, 782), (3, 2));
+    }
+
+    #[test]
+    fn the_source_words_are_taken_as_meant() {
+        for value in 0..=782 {
+            let up = if value == 782 { 0 } else { value + 1 };
+            let down = if value == 0 { 782 } else { value - 1 };
+            assert_eq!(taken(value, plain_word(value)), Taken::Plain);
+            assert_eq!(taken(value, increment_word(value)), Taken::Increment(up));
+            assert_eq!(taken(value, decrement_word(value)), Taken::Decrement(down));
+            assert_eq!(inverted(plain_word(value), value), (0, 0));
+            assert_eq!(inverted(increment_word(value), value), (5, 0));
+            assert_eq!(inverted(decrement_word(value), value), (0, 5));
+            for word in [plain_word(value), increment_word(value), decrement_word(value)] {
+                assert_eq!(word >> 10, 0b0110_10);
+            }
+        }
+    }
+
+    // Catalogue
+
+    #[test]
+    fn the_example_of_the_listing() {
+        let mut bytes = vec![0x5A, 0x4D, 0x00, 0x07, 0x12];
+        bytes.extend_from_slice(b"03E5");
+        bytes.extend_from_slice(&[b' '; 11]);
+        bytes.push(0x0F);
+        assert_eq!(
+            listing(&bytes),
+            b"circuit label trace flags\n7 12 [03E5           ] 15\n"
+        );
+        assert_eq!(catalogue_check(&bytes), Ok(1));
+        assert_eq!(
+            lookup(&bytes, 7),
+            Ok(Record {
+                circuit: 7,
+                label: 0x12,
+                trace: padded(b"03E5"),
+                flags: 15
+            })
+        );
+    }
+
+    #[test]
+    fn an_empty_file_is_a_good_catalogue_of_none() {
+        assert_eq!(catalogue_check(&[]), Ok(0));
+        assert_eq!(listing(&[]), b"circuit label trace flags\n");
+        assert_eq!(lookup(&[], 1), Err(refused(14, &[])));
+    }
+
+    #[test]
+    fn lengths() {
+        assert_eq!(LONGEST_CATALOGUE, 10_752);
+        assert_eq!(catalogue_check(&good(512)), Ok(512));
+        assert_eq!(catalogue_check(&good(513)), Err(refused(9, &[])));
+        for length in 1..=2 * RECORD_LENGTH {
+            let bytes = &good(2)[..length];
+            if length % RECORD_LENGTH == 0 {
+                assert_eq!(catalogue_check(bytes), Ok(length / RECORD_LENGTH));
+            } else {
+                assert_eq!(catalogue_check(bytes), Err(refused(9, &[])));
+            }
+        }
+    }
+
+    #[test]
+    fn length_comes_before_all_else() {
+        assert_eq!(catalogue_check(&[0x00; 22]), Err(refused(9, &[])));
+        assert_eq!(listing(&[0x00; 22]), b"9\n");
+        assert_eq!(lookup(&[0x00; 22], 0), Err(refused(9, &[])));
+        assert_eq!(catalogue_check(&[0x00; 513 * 21]), Err(refused(9, &[])));
+    }
+
+    #[test]
+    fn bounds_of_each_field() {
+        let one = |circuit, label, trace: &[u8], flags| {
+            catalogue_check(&record(circuit, label, trace, flags))
+        };
+        assert_eq!(one(0, 0x12, b"A", 0), Err(refused(11, &[1])));
+        assert_eq!(one(1, 0x12, b"A", 0), Ok(1));
+        assert_eq!(one(9999, 0x12, b"A", 0), Ok(1));
+        assert_eq!(one(10000, 0x12, b"A", 0), Err(refused(11, &[1])));
+        assert_eq!(one(1, 0x00, b"A", 0), Err(refused(4, &[1])));
+        assert_eq!(one(1, 0x01, b"A", 0), Ok(1));
+        assert_eq!(one(1, 0xFE, b"A", 0), Ok(1));
+        assert_eq!(one(1, 0xFF, b"A", 0), Err(refused(4, &[1])));
+        assert_eq!(one(1, 0x12, b"\x1F", 0), Err(refused(5, &[1])));
+        assert_eq!(one(1, 0x12, b"\x20", 0), Ok(1));
+        assert_eq!(one(1, 0x12, b"\x7E", 0), Ok(1));
+        assert_eq!(one(1, 0x12, b"\x7F", 0), Err(refused(5, &[1])));
+        assert_eq!(one(1, 0x12, b"ABCDEFGHIJKLMN\x80", 0), Err(refused(5, &[1])));
+        assert_eq!(one(1, 0x12, b"A", 15), Ok(1));
+        assert_eq!(one(1, 0x12, b"A", 16), Err(refused(12, &[1])));
+        assert_eq!(one(1, 0x12, b"A", 255), Err(refused(12, &[1])));
+    }
+
+    #[test]
+    fn either_byte_of_the_mark_may_be_wrong() {
+        for place in 0..2 {
+            for bit in 0..8 {
+                let mut bytes = good(2);
+                bytes[RECORD_LENGTH + place] ^= 1 << bit;
+                assert_eq!(catalogue_check(&bytes), Err(refused(10, &[2])));
+            }
+        }
+    }
+
+    #[test]
+    fn faults_of_one_record_come_in_the_order_10_11_4_5_12() {
+        // The second of three records has every fault; they are put right one
+        // by one in the order in which they are named. Before and after, two
+        // records share a trace.
+        let mut bytes = record(1, 0x12, b"A", 0);
+        bytes.extend([0x4D, 0x5A, 0x27, 0x10, 0xFF]);
+        bytes.extend([0x7F; 15]);
+        bytes.push(0x10);
+        bytes.extend(record(3, 0x12, b"A", 0));
+        let at = RECORD_LENGTH;
+
+        assert_eq!(catalogue_check(&bytes), Err(refused(10, &[2])));
+        assert_eq!(listing(&bytes), b"10 2\n");
+        bytes[at] = 0x5A;
+        assert_eq!(catalogue_check(&bytes), Err(refused(10, &[2])));
+        bytes[at + 1] = 0x4D;
+        assert_eq!(catalogue_check(&bytes), Err(refused(11, &[2])));
+        bytes[at + 3] = 0x0F;
+        assert_eq!(catalogue_check(&bytes), Err(refused(4, &[2])));
+        bytes[at + 4] = 0xFE;
+        assert_eq!(catalogue_check(&bytes), Err(refused(5, &[2])));
+        bytes[at + 5..at + 20].fill(0x7E);
+        assert_eq!(catalogue_check(&bytes), Err(refused(12, &[2])));
+        bytes[at + 20] = 0x0F;
+        assert_eq!(catalogue_check(&bytes), Err(refused(13, &[3, 1])));
+        assert_eq!(listing(&bytes), b"13 3 1\n");
+        bytes[2 * at + 5] = b'B';
+        assert_eq!(catalogue_check(&bytes), Ok(3));
+    }
+
+    #[test]
+    fn an_earlier_record_comes_before_a_later_one() {
+        // Flags wrong in record 2, mark wrong in record 3.
+        let mut bytes = good(3);
+        bytes[RECORD_LENGTH + 20] = 0xFF;
+        bytes[2 * RECORD_LENGTH] = 0x00;
+        assert_eq!(catalogue_check(&bytes), Err(refused(12, &[2])));
+    }
+
+    #[test]
+    fn the_last_place() {
+        let mut bytes = good(512);
+        bytes[511 * RECORD_LENGTH + 20] = 16;
+        assert_eq!(listing(&bytes), b"12 512\n");
+    }
+
+    #[test]
+    fn refusal_13_names_the_earliest_later_with_the_first() {
+        let of = |traces: &[&[u8]]| {
+            let mut bytes = Vec::new();
+            for (index, trace) in traces.iter().enumerate() {
+                bytes.extend(record(index as u16 + 1, 0x12, trace, 0));
+            }
+            catalogue_check(&bytes)
+        };
+        // 4 repeats 1, but 3 repeats 2 earlier.
+        assert_eq!(of(&[b"A", b"B", b"B", b"A"]), Err(refused(13, &[3, 2])));
+        // 2 repeats 1 before 3 does.
+        assert_eq!(of(&[b"A", b"A", b"A"]), Err(refused(13, &[2, 1])));
+        assert_eq!(of(&[b"A", b"B", b"C", b"B", b"A"]), Err(refused(13, &[4, 2])));
+        // Spaces are characters like others.
+        assert_eq!(of(&[b"A", b" A", b"  A", b"a", b""]), Ok(5));
+        assert_eq!(of(&[b"7", b"07", b"007"]), Ok(3));
+        assert_eq!(of(&[b"", b"A", b""]), Err(refused(13, &[3, 1])));
+    }
+
+    #[test]
+    fn lookup_gives_the_first_record_with_the_number() {
+        let mut bytes = record(9, 0x13, b"A", 1);
+        bytes.extend(record(0x1234, 0x12, b"B", 2));
+        bytes.extend(record(0x1234, 0x02, b"C", 3));
+        assert_eq!(catalogue_check(&bytes), Ok(3));
+        assert_eq!(
+            lookup(&bytes, 0x1234),
+            Ok(Record {
+                circuit: 0x1234,
+                label: 0x12,
+                trace: padded(b"B"),
+                flags: 2
+            })
+        );
+    }
+
+    #[test]
+    fn any_number_not_in_it_is_14() {
+        let bytes = good(3);
+        for circuit in [0, 4, 9999, 10_000, 65_535, 65_536, 65_537, u32::MAX] {
+            assert_eq!(lookup(&bytes, circuit), Err(refused(14, &[])));
+        }
+    }
+
+    #[test]
+    fn lookup_checks_the_catalogue_first() {
+        let mut bytes = good(3);
+        bytes[2 * RECORD_LENGTH + 4] = 0x00;
+        assert_eq!(lookup(&bytes, 1), Err(refused(4, &[3])));
+        assert_eq!(lookup(&bytes, 77), Err(refused(4, &[3])));
+        let twice = [good(2), good(1)].concat();
+        assert_eq!(lookup(&twice, 2), Err(refused(13, &[3, 1])));
+    }
+
+    #[test]
+    fn listing_has_labels_of_two_capital_digits_and_traces_as_they_stand() {
+        let mut bytes = record(9999, 0x0A, b" ]x[ ~", 0);
+        bytes.extend(record(10, 0xFE, b"ABCDEFGHIJKLMNO", 9));
+        assert_eq!(
+            listing(&bytes),
+            b"circuit label trace flags\n\
+              9999 0A [ ]x[ ~         ] 0\n\
+              10 FE [ABCDEFGHIJKLMNO] 9\n"
+        );
+    }
+
+    // Every input is answered
+
+    #[test]
+    fn every_input_is_answered() {
+        let mut seed = 7;
+        for _ in 0..3000 {
+            let mut bytes = if next(&mut seed) % 2 == 0 {
+                good((next(&mut seed) % 6) as usize)
+            } else {
+                let length = next(&mut seed) % 70;
+                (0..length).map(|_| next(&mut seed) as u8).collect()
+            };
+            if !bytes.is_empty() && next(&mut seed) % 2 == 0 {
+                let place = next(&mut seed) as usize % bytes.len();
+                bytes[place] = next(&mut seed) as u8;
+            }
+            parity(&bytes);
+            trace_check(&bytes);
+            word_reading(&bytes);
+            let text = listing(&bytes);
+            assert_eq!(text.last(), Some(&b'\n'));
+            match catalogue_check(&bytes) {
+                Ok(count) => assert_eq!(count * RECORD_LENGTH, bytes.len()),
+                Err(refusal) => assert_eq!(lookup(&bytes, 1), Err(refusal)),
+            }
+        }
+        start_byte(&[0xFF; 15]);
+        for value in 0..=u16::MAX {
+            plain_word(value);
+            increment_word(value);
+            decrement_word(value);
+            inverted(value, !value);
+        }
+    }
+}

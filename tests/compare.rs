@@ -1,0 +1,341 @@
+//! The proved code against the second program, over many inputs: every word,
+//! every length about the ones that matter, good bytes, damaged and cut ones,
+//! and catalogues with any number of faults.
+//!
+//! Links libcard.a and libprobe.a. `compare [SEED]`: the seed is fixed unless
+//! one is given. A case that differs is printed whole, and the seed with it.
+
+#[path = "../second/second.rs"]
+mod second;
+
+/// The proved functions, as C sees them: a slice is a pointer and a length.
+mod proved {
+    mod c {
+        extern "C" {
+            pub fn card_parity(bytes: *const u8, length: usize) -> u8;
+            pub fn card_trace_check(bytes: *const u8, length: usize) -> bool;
+            pub fn card_word_reading(bytes: *const u8, length: usize) -> u16;
+            pub fn probe_copy(from: *const u8, length: usize, to: *mut u8, room: usize) -> bool;
+            pub fn probe_start_byte(characters: *const u8, length: usize) -> u8;
+            pub fn probe_plain_word(value: u16) -> u16;
+            pub fn probe_adjusting_word(places: u16, value: u16) -> u16;
+            pub fn probe_inverted(places: u16, word: u16, offset: u16) -> u32;
+            pub fn probe_check(bytes: *const u8, length: usize) -> u64;
+            pub fn probe_lookup(bytes: *const u8, length: usize, number: u32, trace: *mut [u8; 15]) -> u64;
+        }
+    }
+
+    // Each pointer below is to a live slice of the length given with it.
+    pub fn parity(b: &[u8]) -> u8 {
+        unsafe { c::card_parity(b.as_ptr(), b.len()) }
+    }
+    pub fn trace_check(b: &[u8]) -> bool {
+        unsafe { c::card_trace_check(b.as_ptr(), b.len()) }
+    }
+    pub fn word_reading(b: &[u8]) -> u16 {
+        unsafe { c::card_word_reading(b.as_ptr(), b.len()) }
+    }
+    pub fn copy(from: &[u8], to: &mut [u8]) -> bool {
+        unsafe { c::probe_copy(from.as_ptr(), from.len(), to.as_mut_ptr(), to.len()) }
+    }
+    pub fn start_byte(b: &[u8]) -> u8 {
+        unsafe { c::probe_start_byte(b.as_ptr(), b.len()) }
+    }
+    pub fn plain_word(v: u16) -> u16 {
+        unsafe { c::probe_plain_word(v) }
+    }
+    pub fn adjusting_word(places: u16, v: u16) -> u16 {
+        unsafe { c::probe_adjusting_word(places, v) }
+    }
+    pub fn inverted(places: u16, w: u16, v: u16) -> u32 {
+        unsafe { c::probe_inverted(places, w, v) }
+    }
+    pub fn check(b: &[u8]) -> u64 {
+        unsafe { c::probe_check(b.as_ptr(), b.len()) }
+    }
+    pub fn lookup(b: &[u8], number: u32) -> (u64, [u8; 15]) {
+        let mut trace = [0xEE; 15];
+        let found = unsafe { c::probe_lookup(b.as_ptr(), b.len(), number, &mut trace) };
+        (found, trace)
+    }
+}
+
+/// Numbers that look random, the same for the same seed (splitmix64).
+struct Random(u64);
+
+impl Random {
+    fn next(&mut self) -> u64 {
+        self.0 = self.0.wrapping_add(0x9E37_79B9_7F4A_7C15);
+        let mut z = self.0;
+        z = (z ^ (z >> 30)).wrapping_mul(0xBF58_476D_1CE4_E5B9);
+        z = (z ^ (z >> 27)).wrapping_mul(0x94D0_49BB_1331_11EB);
+        z ^ (z >> 31)
+    }
+    /// Below n.
+    fn below(&mut self, n: usize) -> usize {
+        (self.next() % n as u64) as usize
+    }
+    fn byte(&mut self) -> u8 {
+        self.next() as u8
+    }
+    fn bytes(&mut self, n: usize) -> Vec<u8> {
+        (0..n).map(|_| self.byte()).collect()
+    }
+}
+
+/// What was compared, and what differed.
+struct Tally {
+    compared: u64,
+    differed: u64,
+}
+
+impl Tally {
+    fn same<T: PartialEq + std::fmt::Debug>(&mut self, what: &str, input: &dyn Fn() -> String, second: T, proved: T) {
+        self.compared += 1;
+        if second != proved {
+            self.differed += 1;
+            if self.differed <= 10 {
+                println!("compare: {what} differs: second {second:?}, proved {proved:?}, of {}", input());
+            }
+        }
+    }
+}
+
+fn hex(b: &[u8]) -> String {
+    b.iter().map(|x| format!("{x:02X}")).collect()
+}
+
+/// Lengths about those that a rule names, and about a container's.
+fn lengths() -> impl Iterator<Item = usize> {
+    (0..=40).chain(2330..=2370)
+}
+
+fn bytes_of_every_length(r: &mut Random, t: &mut Tally) {
+    for n in lengths() {
+        for round in 0..40 {
+            let b = match round {
+                0 => vec![0; n],
+                1 => vec![0xFF; n],
+                _ => r.bytes(n),
+            };
+            t.same("parity", &|| hex(&b), second::parity(&b), proved::parity(&b));
+            t.same("trace check", &|| hex(&b), second::trace_check(&b), proved::trace_check(&b));
+            t.same("word reading", &|| hex(&b), second::word_reading(&b), proved::word_reading(&b));
+            // copying: exact where the lengths agree, nothing where they do not
+            let room = if round % 3 == 2 { n + 1 } else { n };
+            let before = r.bytes(room);
+            let mut to = before.clone();
+            let said = proved::copy(&b, &mut to);
+            let want = if room == n { b.clone() } else { before };
+            t.same("copy", &|| hex(&b), (room == n, want), (said, to));
+        }
+    }
+}
+
+fn words(t: &mut Tally) {
+    for w in 0..=0xFFFFu16 {
+        let b = w.to_be_bytes();
+        t.same("word reading", &|| format!("{w:04X}"), second::word_reading(&b), proved::word_reading(&b));
+    }
+    for v in 0..1024u16 {
+        let of = || format!("value {v}");
+        t.same("plain word", &of, second::plain_word(v), proved::plain_word(v));
+        t.same("increment word", &of, second::increment_word(v), proved::adjusting_word(0x2AA, v));
+        t.same("decrement word", &of, second::decrement_word(v), proved::adjusting_word(0x155, v));
+    }
+    for v in [0u16, 1, 2, 5, 390, 521, 522, 764, 765, 781, 782, 783, 1023] {
+        for w in (0..=0xFFFFu16).step_by(7).chain([0x6AAA, 0x6955, 0x69A4, 0x6954, 0x6B0F]) {
+            let both = (proved::inverted(0x2AA, w, v), proved::inverted(0x155, w, v));
+            t.same("inverted bits", &|| format!("word {w:04X}, value {v}"), second::inverted(w, v), both);
+        }
+    }
+}
+
+fn messages(r: &mut Random, t: &mut Tally) {
+    for round in 0..600 {
+        let mut characters = [0u8; 15];
+        for c in &mut characters {
+            *c = match round % 3 {
+                0 => 0x20 + r.below(0x5F) as u8, // as settings allow
+                1 => r.below(0x80) as u8,        // as a good message may hold
+                _ => r.byte(),                   // anything
+            };
+        }
+        let start = second::start_byte(&characters);
+        t.same("start byte", &|| hex(&characters), start, proved::start_byte(&characters));
+        let mut message = vec![start];
+        message.extend_from_slice(&characters);
+        let mut ask = |m: &[u8]| t.same("trace check", &|| hex(m), second::trace_check(m), proved::trace_check(m));
+        ask(&message);
+        ask(&message[..15]);
+        ask(&message[1..]);
+        ask(&[&message[..], &[0]].concat());
+        for bit in 0..128 {
+            let mut damaged = message.clone();
+            damaged[bit / 8] ^= 1 << (bit % 8);
+            ask(&damaged);
+        }
+        message.rotate_left(1 + r.below(15)); // begun in the middle
+        ask(&message);
+    }
+}
+
+/// A good catalogue of n records.
+fn good(r: &mut Random, n: usize) -> Vec<u8> {
+    let mut b = Vec::new();
+    for k in 0..n {
+        let most = if r.below(4) == 0 { 12 } else { 9999 }; // few numbers, so that some repeat
+        let circuit = 1 + r.below(most) as u16;
+        b.extend_from_slice(&[0x5A, 0x4D]);
+        b.extend_from_slice(&circuit.to_be_bytes());
+        b.push(1 + r.below(0xFE) as u8);
+        // one trace for each record, alike but for a few characters
+        let mut trace = *b"LINE           ";
+        let name = format!("{:X}", k * 3 + 1);
+        let at = 4 + r.below(11 - name.len());
+        trace[at..at + name.len()].copy_from_slice(name.as_bytes());
+        trace[14] = 0x20 + (k % 0x5F) as u8;
+        trace[13] = 0x20 + (k / 0x5F) as u8;
+        b.extend_from_slice(&trace);
+        b.push(r.below(16) as u8);
+    }
+    b
+}
+
+/// A fault in a record: any byte anything, or a field at one of its borders, or the trace of another record.
+fn fault(r: &mut Random, b: &mut Vec<u8>) {
+    let n = b.len() / 21;
+    if n == 0 {
+        let more = r.below(24);
+        let extra = r.bytes(more);
+        b.extend(extra);
+        return;
+    }
+    let k = r.below(n) * 21;
+    match r.below(11) {
+        0 => {
+            let at = k + r.below(21);
+            b[at] = r.byte();
+        }
+        1 => b[k] = 0x5B,
+        2 => b[k + 1] = [0x4E, 0x5A, 0x00][r.below(3)],
+        3 => {
+            let circuit: u16 = [0, 1, 9999, 10000, 65535][r.below(5)];
+            b[k + 2..k + 4].copy_from_slice(&circuit.to_be_bytes());
+        }
+        4 => b[k + 4] = [0x00, 0xFF, 0x01, 0xFE][r.below(4)],
+        5 => {
+            let at = k + 5 + r.below(15);
+            b[at] = [0x1F, 0x20, 0x7E, 0x7F, 0x80, 0x00, 0xFF][r.below(7)];
+        }
+        6 => b[k + 20] = [15, 16, 255][r.below(3)],
+        7 | 8 => {
+            // the trace of another record, or nearly
+            let other = r.below(n) * 21;
+            let trace = b[other + 5..other + 20].to_vec();
+            b[k + 5..k + 20].copy_from_slice(&trace);
+            if r.below(4) == 0 {
+                b[k + 19] = 0x20;
+            }
+        }
+        9 => b.truncate(b.len() - 1 - r.below(21)),
+        _ => {
+            let extra = r.byte();
+            b.push(extra);
+        }
+    }
+}
+
+/// The probe's number for an answer of the second program.
+fn packed(answer: &Result<usize, second::Refusal>) -> u64 {
+    match answer {
+        Ok(n) => *n as u64,
+        Err(x) => {
+            let place = |k: usize| x.places.get(k).copied().unwrap_or(0) as u64;
+            (u64::from(x.number) << 32) + (place(0) << 16) + place(1)
+        }
+    }
+}
+
+fn catalogue(r: &mut Random, t: &mut Tally, b: &[u8], met: &mut [u64; 15]) {
+    let answer = second::catalogue_check(b);
+    t.same("catalogue check", &|| hex(b), packed(&answer), proved::check(b));
+    met[answer.as_ref().map_or_else(|x| x.number as usize, |_| 0)] += 1;
+    let n = b.len() / 21;
+    for round in 0..4 {
+        let number = match round {
+            0 => [0, 1, 9999, 10000, 65536 + 7, u32::MAX][r.below(6)],
+            1 | 2 if n > 0 => {
+                let k = r.below(n) * 21;
+                u32::from(b[k + 2]) * 256 + u32::from(b[k + 3])
+            }
+            _ => r.below(10001) as u32,
+        };
+        let want = match second::lookup(b, number) {
+            Ok(e) => (u64::from(e.label) * 256 + u64::from(e.flags), e.trace),
+            Err(x) => {
+                met[x.number as usize] += u64::from(x.number == 14);
+                (packed(&Err(x)), [0; 15])
+            }
+        };
+        t.same("lookup", &|| format!("{number} in {}", hex(b)), want, proved::lookup(b, number));
+    }
+}
+
+fn catalogues(r: &mut Random, t: &mut Tally) {
+    let mut met = [0u64; 15]; // how often each answer came, 0 for a good catalogue
+    for round in 0..6000 {
+        let n = match round % 40 {
+            0 => 0,
+            1 => 1,
+            2 => 511 + r.below(3),
+            k => k / 2,
+        };
+        let mut b = good(r, n);
+        for _ in 0..r.below(5) {
+            fault(r, &mut b);
+        }
+        catalogue(r, t, &b, &mut met);
+    }
+    for n in lengths().chain([10731, 10732, 10751, 10752, 10753, 10773]) {
+        let mut b = good(r, n / 21 + 1);
+        b.truncate(n);
+        catalogue(r, t, &b, &mut met);
+        let b = r.bytes(n);
+        catalogue(r, t, &b, &mut met);
+    }
+    // a pair at the very ends of the longest catalogue, and traces that differ in the last character alone
+    let mut b = good(r, 512);
+    let trace = b[5..20].to_vec();
+    b[511 * 21 + 5..512 * 21 - 1].copy_from_slice(&trace);
+    catalogue(r, t, &b, &mut met);
+    b[512 * 21 - 2] = if b[512 * 21 - 2] == b'~' { b'}' } else { b'~' };
+    catalogue(r, t, &b, &mut met);
+    for (number, times) in met.iter().enumerate() {
+        if matches!(number, 0 | 4 | 5 | 9..=14) && *times < 20 {
+            println!("compare: answer {number} of the catalogue was met {times} times only");
+            t.differed += 1;
+        }
+    }
+}
+
+fn main() {
+    let seed = match std::env::args().nth(1).map(|s| s.parse::<u64>()) {
+        None => 20,
+        Some(Ok(n)) => n,
+        Some(Err(_)) => {
+            eprintln!("usage: compare [SEED]");
+            std::process::exit(2);
+        }
+    };
+    let mut r = Random(seed);
+    let mut t = Tally { compared: 0, differed: 0 };
+    bytes_of_every_length(&mut r, &mut t);
+    words(&mut t);
+    messages(&mut r, &mut t);
+    catalogues(&mut r, &mut t);
+    println!("compare: {} answers compared, {} differ (seed {seed})", t.compared, t.differed);
+    if t.differed > 0 {
+        std::process::exit(1);
+    }
+}

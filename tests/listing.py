@@ -1,0 +1,78 @@
+#!/usr/bin/env python3
+"""The listing program against the second program, file by file.
+
+Usage: listing.py LIST SECOND     the built listing program, and the built second program.
+
+Each file of tests/catalogues is read as it is written there, fed to both, and
+their output compared byte for byte. A file named refused-NN.. must be refused
+with NN, one named good-.. must be listed; every refusal of a catalogue must be
+among them. Longer files, up to and past the longest catalogue, are made here.
+"""
+import pathlib
+import re
+import subprocess
+import sys
+
+LONGEST = 512 * 21
+
+
+def catalogue(text):
+    """The bytes of a catalogue written out: hex digits, |characters| as they stand, `#` to the end of a line left out."""
+    data = b""
+    for line in text.splitlines():
+        if line.startswith("#"):
+            continue
+        for hexes, characters in re.findall(r"([0-9A-F]+)|\|([^|]*)\|", line):
+            data += bytes.fromhex(hexes) if hexes else characters.encode("ascii")
+        if re.sub(r"[0-9A-F ]|\|[^|]*\|", "", line):
+            sys.exit(f"listing: a catalogue's line is not understood: {line}")
+    return data
+
+
+def record(k):
+    return b"\x5a\x4d" + k.to_bytes(2, "big") + b"\x12" + f"LINE {k:04d}      ".encode() + b"\x0f"
+
+
+def run(command, data):
+    done = subprocess.run(command, input=data, capture_output=True, timeout=60)
+    if done.returncode != 0:
+        sys.exit(f"listing: {command[0]} ended with {done.returncode}: {done.stderr.decode(errors='replace')}")
+    return done.stdout
+
+
+def main():
+    if len(sys.argv) != 3:
+        sys.exit(__doc__)
+    listing, second = [sys.argv[1]], [sys.argv[2], "list"]
+    here = pathlib.Path(__file__).parent
+    cases = [(p.stem, catalogue(p.read_text())) for p in sorted((here / "catalogues").glob("*.txt"))]
+    cases.append(("good-shelf", (here.parent / "examples" / "shelf.cat").read_bytes()))
+    longest = b"".join(record(k) for k in range(1, 513))
+    cases.append(("good-512-records", longest))
+    cases.append(("refused-09-513-records", longest + record(513)))
+    cases.append(("refused-09-one-byte-more", longest + b"\x5a"))
+    cases.append(("refused-09-far-longer", longest * 5))
+    cases.append(("refused-13-at-the-ends", longest[: LONGEST - 21] + record(1)))
+    cases.append(("refused-10-in-the-last", longest[: LONGEST - 21] + b"\0" * 21))
+    cases += [(f"refused-09-cut-{n}", longest[:n]) for n in (1, 2, 20, 22, 41, LONGEST - 1)]
+
+    failed, met = 0, set()
+    for name, data in cases:
+        ours, theirs = run(listing, data), run(second, data)
+        said = re.match(r"(?:good|refused-(\d\d))-?", name).group(1)
+        first = ours.split(b"\n")[0]
+        right = first == b"circuit label trace flags" if said is None else first.split(b" ")[0] == str(int(said)).encode()
+        met.add(int(said) if said else 0)
+        if ours != theirs or not right:
+            failed += 1
+            print(f"listing: {name} differs:\n  program {ours[:400]!r}\n  second  {theirs[:400]!r}\n  input   {data[:200].hex()}")
+    missing = {0, 4, 5, 9, 10, 11, 12, 13} - met
+    if missing:
+        failed += 1
+        print(f"listing: no file for the refusals {sorted(missing)}")
+    print(f"listing: {len(cases)} files, {failed} differ")
+    sys.exit(1 if failed else 0)
+
+
+if __name__ == "__main__":
+    main()
