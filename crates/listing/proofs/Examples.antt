@@ -1,0 +1,25 @@
+-- 01's example of a line, and the lines of two refusals: "13: later, then first; 9: none".
+use mathlib.Core.Path.{_≡_, refl}
+use mathlib.Core.List.{[], _∷_, _++_}
+use lib.ListN.{replicate}
+use Rattle.text.specs.Text.{decimalIn, decimalOf, hexDigit}
+use Rattle.catalogue.specs.Record.{circuitIn, labelIn, traceIn, flagsIn}
+use Rattle.catalogue.specs.Refusals.{numberOf, placesOf}
+use Rattle.catalogue.specs.declared.Refusal.the-variants.{Length, Repeated}
+use Rattle.listing.specs.Listing.{numberAndLabel, traceAndFlags, lineOf, spaced, refusalLine}
+
+-- "5A 4D 00 07 12, `03E5` with eleven spaces, 0F": `7 12 [03E5           ] 15`
+paper-line : lineOf (0x5a ∷ 0x4d ∷ 0x00 ∷ 0x07 ∷ 0x12 ∷ 0x30 ∷ 0x33 ∷ 0x45 ∷ 0x35 ∷ (replicate 11 0x20 ++ (0x0f ∷ [])))
+    ≡ 0x37 ∷ 0x20 ∷ 0x31 ∷ 0x32 ∷ 0x20 ∷ 0x5b ∷ 0x30 ∷ 0x33 ∷ 0x45 ∷ 0x35 ∷ (replicate 11 0x20 ++ (0x5d ∷ 0x20 ∷ 0x31 ∷ 0x35 ∷ 0x0a ∷ []))
+unfolding lineOf numberAndLabel traceAndFlags decimalOf decimalIn hexDigit circuitIn labelIn traceIn flagsIn
+paper-line = refl
+
+-- `13 5 2`
+repeated-line : refusalLine (Repeated 5 2) ≡ 0x31 ∷ 0x33 ∷ 0x20 ∷ 0x35 ∷ 0x20 ∷ 0x32 ∷ 0x0a ∷ []
+unfolding refusalLine spaced numberOf placesOf decimalOf decimalIn
+repeated-line = refl
+
+-- `9`
+length-line : refusalLine Length ≡ 0x39 ∷ 0x0a ∷ []
+unfolding refusalLine spaced numberOf placesOf decimalOf decimalIn
+length-line = refl

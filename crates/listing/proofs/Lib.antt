@@ -1,0 +1,5 @@
+pub mod Writing
+pub mod Rows
+pub mod Refusing
+pub mod Answers
+pub mod Examples

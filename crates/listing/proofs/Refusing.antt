@@ -1,0 +1,66 @@
+-- What the pieces of a refusal's line come to.
+use mathlib.Core.Path.{_≡_}
+use mathlib.Core.List.{List, [], _∷_, append-assoc, append-nil}
+use Prim.Native.Nat.{ℕ, _+_, _≤_}
+use native.Mathlib.Omega.{arith}
+use lib.ListN.{length}
+use Rattle.text.specs.Text.{decimalOf, Written}
+use Rattle.text.proofs.Digits.{length-most}
+use Rattle.text.proofs.Pieces.{length-written, written-none}
+use Rattle.catalogue.specs.Refusals.{numberOf, placesOf}
+use Rattle.catalogue.specs.declared.Refusal.{Refusal}
+use Rattle.catalogue.specs.declared.Refusal.the-variants.{Length, Repeated, NotListed}
+use Rattle.listing.specs.Listing.{spaced, refusalLine, Short, Within}
+use Rattle.listing.proofs.Writing.{within, within-number, within-then}
+
+-- ---- a place
+
+module _ (b m : List ℕ) (at i p : ℕ) (h : at + 21 ≤ length b) (w : Written at (0x20 ∷ []) b m i) where
+  pub place-fits : i + length (decimalOf p) ≤ length m
+  place-fits = omega (arith, length-most p, w .next-is, length-written at i (0x20 ∷ []) b m (omega arith) w)
+
+  pub place-within : (a : List ℕ) (n : ℕ) → Written i (decimalOf p) m a n → Within 21 at (0x20 ∷ decimalOf p) b a n
+  place-within a n v = within-then (within 1 w (omega arith)) (within 20 v (length-most p)) (omega arith)
+
+-- ---- no place, one, and two
+
+module _ {x : Refusal} where
+  pub of-length : x ≡ Length → placesOf x ≡ []
+  unfolding placesOf
+  of-length e = rw e
+
+  pub of-not-listed : x ≡ NotListed → placesOf x ≡ []
+  unfolding placesOf
+  of-not-listed e = rw e
+
+  -- y names the place q, which was read as p
+  pub of-one : {y : Refusal} {p q : ℕ} → x ≡ y → placesOf y ≡ q ∷ [] → p ≡ q → placesOf x ≡ p ∷ []
+  of-one e f g = rw (e, f, g)
+
+  pub of-repeated : {p q : ℕ} → x ≡ Repeated p q → placesOf x ≡ p ∷ q ∷ []
+  unfolding placesOf
+  of-repeated e = rw e
+
+module _ (b : List ℕ) (ps : List ℕ) (at : ℕ) where
+  pub places-none : ps ≡ [] → Within 42 at (spaced ps) b b at
+  unfolding spaced
+  places-none e = rw e (within 42 (written-none at b) (omega arith))
+
+  pub places-one : (a : List ℕ) (n p : ℕ) → ps ≡ p ∷ [] → Within 21 at (0x20 ∷ decimalOf p) b a n → Within 42 at (spaced ps) b a n
+  unfolding spaced
+  places-one a n p e w = rw (e, append-nil) (record { written = w .written; short = omega arith })
+
+  pub places-two : (m a : List ℕ) (i n p q : ℕ) → ps ≡ p ∷ q ∷ [] → at + 42 ≤ length b
+      → Within 21 at (0x20 ∷ decimalOf p) b m i → Within 21 i (0x20 ∷ decimalOf q) m a n → Within 42 at (spaced ps) b a n
+  unfolding spaced
+  places-two m a i n p q e h w v = rw (e, append-nil) (within-then w v (omega arith))
+
+-- ---- the line
+
+pub refusal-written : (x : Refusal) (b m m′ a : List ℕ) (i j n y : ℕ) → 46 ≤ length b → Short 3 (numberOf x) y
+    → Written 0 (decimalOf y) b m i → Within 42 i (spaced (placesOf x)) m m′ j → Written j (0x0a ∷ []) m′ a n
+    → Written 0 (refusalLine x) b a n
+unfolding refusalLine
+refusal-written x b m m′ a i j n y h s w v u =
+    let wv = within-then (within-number s w) v (omega arith) in
+    rw append-assoc at (within-then wv (within 1 u (omega arith)) (omega arith) .written)

@@ -1,0 +1,38 @@
+-- `listing::list` meets its contract: the buffer has room for a good catalogue of 512 records, and for a refusal. Assumes nothing.
+use borrow.Author.Needs.{needs}
+use Rattle.listing.proofs.Answers.{good-records, good-room, good-listed, refused-listed}
+use Rattle.listing.proofs.list.Statement.{statement}
+use Rattle.listing.proofs.list.Tie as tie
+
+check-requires : tie.Need-check-requires
+check-requires c κs = search needs
+
+enum-known-n : tie.Need-enum-known-n
+enum-known-n c = search needs
+
+good-requires : tie.Need-good-requires
+good-requires c κs = (search good-records, search good-room)
+
+enum-known-x : tie.Need-enum-known-x
+enum-known-x c = search needs
+
+refusal-line-requires : tie.Need-refusal-line-requires
+refusal-line-requires c κs = search needs
+
+returns : tie.Need-returns
+returns c = search good-listed
+
+returns-2 : tie.Need-returns-2
+returns-2 c = search refused-listed
+
+pub list-spec : {M : Type 1} → statement M
+list-spec =
+    tie.close
+    (tie.spec
+    check-requires
+    enum-known-n
+    good-requires
+    enum-known-x
+    refusal-line-requires
+    returns
+    returns-2)

@@ -1,0 +1,147 @@
+// The listing of a catalogue as text, in a lent buffer: the heading and a line for each record, or the one line of a refusal.
+// What it is stands in specs/Listing.antt. The program `list` prints it.
+use catalogue::Checked;
+use catalogue::Refusal;
+ghost use mathlib.Core.Path.{_≡_};
+ghost use mathlib.Core.List.{_∷_, _++_};
+ghost use Prim.Native.Nat.{_+_, _*_, _<_, _≤_};
+ghost use lib.ListN.{length};
+ghost use Rattle.text.specs.Text.{decimalOf, Written};
+ghost use Rattle.catalogue.specs.Record.{circuitIn, flagsIn};
+ghost use Rattle.catalogue.specs.Refusals.{numberOf, placesOf};
+ghost use Rattle.listing.specs.Listing.{heading, numberAndLabel, traceAndFlags, lineOf, linesFrom, spaced, refusalLine, Short, Within, Listed};
+
+// A byte as a number of 64 bits.
+fn wide(x: u8) -> u64
+    ensures { λ r. ⌜ (r ≡ x) × (r < 256) ⌝ }
+{
+    x as u64
+}
+
+// A record's circuit number, of two bytes.
+fn circuit(r: &[u8]) -> u64
+    requires { ⌜ length (now r) ≡ 21 ⌝ }
+    ensures { λ n. ⌜ Short 5 (circuitIn (now (r .entry))) n ⌝ }
+{
+    catalogue::circuit(r) as u64
+}
+
+// A record's flags, of one byte.
+fn flags(r: &[u8]) -> u64
+    requires { ⌜ length (now r) ≡ 21 ⌝ }
+    ensures { λ n. ⌜ Short 3 (flagsIn (now (r .entry))) n ⌝ }
+{
+    wide(r[20])
+}
+
+// A record's number and label.
+fn number_and_label(out: &mut [u8], at: usize, r: &[u8]) -> usize
+    requires { ⌜ (length (now r) ≡ 21) × (at + 8 ≤ length (now out)) ⌝ }
+    ensures { λ n. ⌜ Within 8 at (numberAndLabel (now (r .entry))) (now (out .entry)) (now (out .exit)) n ⌝ }
+{
+    let a = text::decimal(out, at, circuit(r));
+    let b = text::byte(out, a, 0x20);
+    text::hex(out, b, r[4])
+}
+
+// A record's trace, in brackets, and flags.
+fn trace_and_flags(out: &mut [u8], at: usize, r: &[u8]) -> usize
+    requires { ⌜ (length (now r) ≡ 21) × (at + 21 ≤ length (now out)) ⌝ }
+    ensures { λ n. ⌜ Within 21 at (traceAndFlags (now (r .entry))) (now (out .entry)) (now (out .exit)) n ⌝ }
+{
+    let a = text::byte(out, at, 0x5b);
+    let b = text::bytes(out, a, catalogue::trace(r));
+    let c = text::bytes(out, b, b"] ");
+    text::decimal(out, c, flags(r))
+}
+
+// A record's line.
+fn line(out: &mut [u8], at: usize, r: &[u8]) -> usize
+    requires { ⌜ (length (now r) ≡ 21) × (at + 31 ≤ length (now out)) ⌝ }
+    ensures { λ n. ⌜ Within 31 at (lineOf (now (r .entry))) (now (out .entry)) (now (out .exit)) n ⌝ }
+{
+    let a = number_and_label(out, at, r);
+    let b = text::byte(out, a, 0x20);
+    let c = trace_and_flags(out, b, r);
+    text::byte(out, c, 0x0a)
+}
+
+// The lines of the n records of a file.
+fn lines(out: &mut [u8], at: usize, s: &[u8], n: usize) -> usize
+    requires { ⌜ (length (now s) ≡ 21 * n) × (at + 31 * n ≤ length (now out)) ⌝ }
+    ensures { λ e. ⌜ Within (31 * n) at (linesFrom (now (s .entry)) 0 n) (now (out .entry)) (now (out .exit)) e ⌝ }
+{
+    let mut e = at;
+    let mut k = 0;
+    while k < n {
+        e = line(out, e, catalogue::record_at(s, k));
+        k += 1;
+    }
+    e
+}
+
+// A good catalogue of n records: the heading and the lines.
+fn good(out: &mut [u8], s: &[u8], n: usize) -> usize
+    requires { ⌜ (length (now s) ≡ 21 * n) × (26 + 31 * n ≤ length (now out)) ⌝ }
+    ensures { λ e. ⌜ Written 0 (heading ++ linesFrom (now (s .entry)) 0 n) (now (out .entry)) (now (out .exit)) e ⌝ }
+{
+    let at = text::bytes(out, 0, b"circuit label trace flags\n");
+    lines(out, at, s, n)
+}
+
+// A place, with a blank before it.
+fn place(out: &mut [u8], at: usize, p: usize) -> usize
+    requires { ⌜ at + 21 ≤ length (now out) ⌝ }
+    ensures { λ n. ⌜ Within 21 at (0x20 ∷ decimalOf p) (now (out .entry)) (now (out .exit)) n ⌝ }
+{
+    let a = text::byte(out, at, 0x20);
+    text::decimal(out, a, p as u64)
+}
+
+// The places that a refusal names: for 13 the later record's, and then the first's; for 9 none.
+fn places(out: &mut [u8], at: usize, x: Refusal) -> usize
+    requires { ⌜ at + 42 ≤ length (now out) ⌝ }
+    ensures { λ n. ⌜ Within 42 at (spaced (placesOf x)) (now (out .entry)) (now (out .exit)) n ⌝ }
+{
+    match x {
+        Refusal::Length => at,
+        Refusal::Mark(p)
+        | Refusal::Circuit(p)
+        | Refusal::Label(p)
+        | Refusal::Trace(p)
+        | Refusal::Flags(p) => place(out, at, p),
+        Refusal::Repeated(later, first) => {
+            let a = place(out, at, later);
+            place(out, a, first)
+        }
+        Refusal::NotListed => at,
+    }
+}
+
+// A refusal's number, of one byte.
+fn number(x: Refusal) -> u64
+    ensures { λ n. ⌜ Short 3 (numberOf x) n ⌝ }
+{
+    wide(catalogue::number(x))
+}
+
+// The one line of a refusal: its number and its places.
+fn refusal_line(out: &mut [u8], x: Refusal) -> usize
+    requires { ⌜ 46 ≤ length (now out) ⌝ }
+    ensures { λ n. ⌜ Written 0 (refusalLine x) (now (out .entry)) (now (out .exit)) n ⌝ }
+{
+    let a = text::decimal(out, 0, number(x));
+    let b = places(out, a, x);
+    text::byte(out, b, 0x0a)
+}
+
+// The listing, written from the start of the buffer on; the answer is its length. The buffer is as long as the longest listing:
+// the heading of 26 bytes, and 512 lines of at most 31.
+pub fn list(s: &[u8], out: &mut [u8; 15898]) -> usize
+    ensures { λ n. ⌜ Listed (now (s .entry)) (now (out .entry)) (now (out .exit)) n ⌝ }
+{
+    match catalogue::check(s) {
+        Checked::Good(n) => good(out, s, n),
+        Checked::Refused(x) => refusal_line(out, x),
+    }
+}
