@@ -21,6 +21,7 @@ mod proved {
             pub fn probe_adjusting_word(places: u16, value: u16) -> u16;
             pub fn probe_inverted(places: u16, word: u16, offset: u16) -> u32;
             pub fn probe_check(bytes: *const u8, length: usize) -> u64;
+            pub fn probe_list(bytes: *const u8, length: usize, text: *mut [u8; 15898]) -> usize;
             pub fn probe_lookup(bytes: *const u8, length: usize, number: u32, trace: *mut [u8; 15]) -> u64;
         }
     }
@@ -52,6 +53,12 @@ mod proved {
     }
     pub fn check(b: &[u8]) -> u64 {
         unsafe { c::probe_check(b.as_ptr(), b.len()) }
+    }
+    /// The text, and whether the bytes after it kept their value.
+    pub fn list(b: &[u8]) -> (Vec<u8>, bool) {
+        let mut text = [0xEE; 15898];
+        let n = unsafe { c::probe_list(b.as_ptr(), b.len(), &mut text) };
+        (text[..n].to_vec(), text[n..].iter().all(|x| *x == 0xEE))
     }
     pub fn lookup(b: &[u8], number: u32) -> (u64, [u8; 15]) {
         let mut trace = [0xEE; 15];
@@ -260,6 +267,7 @@ fn packed(answer: &Result<usize, second::Refusal>) -> u64 {
 fn catalogue(r: &mut Random, t: &mut Tally, b: &[u8], met: &mut [u64; 15]) {
     let answer = second::catalogue_check(b);
     t.same("catalogue check", &|| hex(b), packed(&answer), proved::check(b));
+    t.same("listing", &|| hex(b), (second::listing(b), true), proved::list(b));
     met[answer.as_ref().map_or_else(|x| x.number as usize, |_| 0)] += 1;
     let n = b.len() / 21;
     for round in 0..4 {

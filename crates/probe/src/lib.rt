@@ -8,6 +8,7 @@ ghost use lib.ListN.{length};
 ghost use Rattle.trace.specs.Check.{startByte};
 ghost use Rattle.word.specs.Word.{plainWord, invertedWord, inverted};
 ghost use Rattle.catalogue.specs.Catalogue.{checkOf, lookupOf};
+ghost use Rattle.listing.specs.Listing.{Listed};
 ghost use Rattle.probe.specs.Probe.{packed, packedCheck, packedFound};
 use catalogue::Checked;
 use catalogue::Found;
@@ -115,4 +116,12 @@ pub extern "C" fn probe_lookup(s: &[u8], number: u32, characters: &mut [u8; 15])
     *characters = t;
     let f = l.found;
     pack_found(f)
+}
+
+// The listing of a catalogue: its length, and the text from the start of the buffer on.
+#[no_mangle]
+pub extern "C" fn probe_list(s: &[u8], text: &mut [u8; 15898]) -> usize
+    ensures { λ n. ⌜ Listed (now (s .entry)) (now (text .entry)) (now (text .exit)) n ⌝ }
+{
+    listing::list(s, text)
 }

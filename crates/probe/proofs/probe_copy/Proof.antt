@@ -1,5 +1,4 @@
 use mathlib.Core.Path.{refl, sym}
-use Rattle.laws.proofs.Tests.{tests}
 use borrow.Author.Tests.{ne-eqb, eq-eqb}
 use borrow.Author.Needs.{needs}
 use Rattle.probe.proofs.probe_copy.Statement.{statement}

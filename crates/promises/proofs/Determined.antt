@@ -1,0 +1,226 @@
+-- Each promise allows one outcome: whatever a function answers and leaves in a lent buffer is the same in any two outcomes that its contract
+-- allows at the same arguments. Read off the contracts themselves, the `Post` that the check makes of each `ensures`. Assumes nothing.
+use mathlib.Core.Path.{_≡_, sym, _∙_}
+use mathlib.Core.Bool.{Bool}
+use mathlib.Core.List.{List}
+use Prim.Native.Nat.{ℕ}
+use borrow.Fn.Kinds.{Out, endedOf, PK, RK, Dens, resT}
+use contract.Lifetimes.{Lfts}
+use denote.Triple.Clauses.{AtExit}
+use denote.Ref.{now}
+use Rattle.text.specs.Text.{Written}
+use Rattle.catalogue.specs.declared.Checked.{Checked}
+use Rattle.catalogue.specs.declared.Looked.{Looked}
+use Rattle.parity.proofs.parity.Kinds as parity
+use Rattle.parity.proofs.parity.Reads as parity-promise
+use Rattle.trace.proofs.start_byte.Kinds as trace-start-byte
+use Rattle.trace.proofs.start_byte.Reads as trace-start-byte-promise
+use Rattle.trace.proofs.good_message.Kinds as trace-good-message
+use Rattle.trace.proofs.good_message.Reads as trace-good-message-promise
+use Rattle.trace.proofs.trace_check.Kinds as trace-check
+use Rattle.trace.proofs.trace_check.Reads as trace-check-promise
+use Rattle.trace.proofs.same.Kinds as trace-same
+use Rattle.trace.proofs.same.Reads as trace-same-promise
+use Rattle.settings.proofs.label_refused.Kinds as settings-label-refused
+use Rattle.settings.proofs.label_refused.Reads as settings-label-refused-promise
+use Rattle.settings.proofs.trace_refused.Kinds as settings-trace-refused
+use Rattle.settings.proofs.trace_refused.Reads as settings-trace-refused-promise
+use Rattle.word.proofs.of.Kinds as word-of
+use Rattle.word.proofs.of.Reads as word-of-promise
+use Rattle.word.proofs.h1.Kinds as word-h1
+use Rattle.word.proofs.h1.Reads as word-h1-promise
+use Rattle.word.proofs.h2.Kinds as word-h2
+use Rattle.word.proofs.h2.Reads as word-h2-promise
+use Rattle.word.proofs.kind.Kinds as word-kind
+use Rattle.word.proofs.kind.Reads as word-kind-promise
+use Rattle.word.proofs.ss.Kinds as word-ss
+use Rattle.word.proofs.ss.Reads as word-ss-promise
+use Rattle.word.proofs.value.Kinds as word-value
+use Rattle.word.proofs.value.Reads as word-value-promise
+use Rattle.word.proofs.reading.Kinds as word-reading
+use Rattle.word.proofs.reading.Reads as word-reading-promise
+use Rattle.word.proofs.of_kind.Kinds as word-of-kind
+use Rattle.word.proofs.of_kind.Reads as word-of-kind-promise
+use Rattle.word.proofs.is_good.Kinds as word-is-good
+use Rattle.word.proofs.is_good.Reads as word-is-good-promise
+use Rattle.word.proofs.inverted_at.Kinds as word-inverted-at
+use Rattle.word.proofs.inverted_at.Reads as word-inverted-at-promise
+use Rattle.word.proofs.plain.Kinds as word-plain
+use Rattle.word.proofs.plain.Reads as word-plain-promise
+use Rattle.word.proofs.adjusting.Kinds as word-adjusting
+use Rattle.word.proofs.adjusting.Reads as word-adjusting-promise
+use Rattle.catalogue.proofs.check.Kinds as catalogue-check
+use Rattle.catalogue.proofs.check.Reads as catalogue-check-promise
+use Rattle.catalogue.proofs.lookup.Kinds as catalogue-lookup
+use Rattle.catalogue.proofs.lookup.Reads as catalogue-lookup-promise
+use Rattle.catalogue.proofs.number.Kinds as catalogue-number
+use Rattle.catalogue.proofs.number.Reads as catalogue-number-promise
+use Rattle.card.proofs.card_parity.Kinds as card-parity
+use Rattle.card.proofs.card_parity.Reads as card-parity-promise
+use Rattle.card.proofs.card_trace_check.Kinds as card-trace-check
+use Rattle.card.proofs.card_trace_check.Reads as card-trace-check-promise
+use Rattle.card.proofs.card_word_reading.Kinds as card-word-reading
+use Rattle.card.proofs.card_word_reading.Reads as card-word-reading-promise
+use Rattle.copier.proofs.copy.Kinds as copier-copy
+use Rattle.copier.proofs.copy.Reads as copier-copy-promise
+use Rattle.copier.proofs.fill.Kinds as copier-fill
+use Rattle.copier.proofs.fill.Reads as copier-fill-promise
+use Rattle.copier.proofs.copy_at.Kinds as copier-copy-at
+use Rattle.copier.proofs.copy_at.Reads as copier-copy-at-promise
+use Rattle.catalogue.proofs.record_at.Kinds as catalogue-record-at
+use Rattle.catalogue.proofs.record_at.Reads as catalogue-record-at-promise
+use Rattle.catalogue.proofs.circuit.Kinds as catalogue-circuit
+use Rattle.catalogue.proofs.circuit.Reads as catalogue-circuit-promise
+use Rattle.catalogue.proofs.trace.Kinds as catalogue-trace
+use Rattle.catalogue.proofs.trace.Reads as catalogue-trace-promise
+use Rattle.text.proofs.bytes.Kinds as text-bytes
+use Rattle.text.proofs.bytes.Reads as text-bytes-promise
+use Rattle.text.proofs.byte.Kinds as text-byte
+use Rattle.text.proofs.byte.Reads as text-byte-promise
+use Rattle.text.proofs.decimal.Kinds as text-decimal
+use Rattle.text.proofs.decimal.Reads as text-decimal-promise
+use Rattle.text.proofs.hex.Kinds as text-hex
+use Rattle.text.proofs.hex.Reads as text-hex-promise
+use Rattle.listing.proofs.list.Kinds as listing-list
+use Rattle.listing.proofs.list.Reads as listing-list-promise
+
+-- whatever f reads off the result and off the parameters at exit; n is the number of references among the parameters
+abbrev pub Determines : {O : Type 0} (n : ℕ) (ps : List (PK n)) (r : RK n) → Out n ps r → ((κs : Lfts n) → resT r κs .Denot → AtExit (endedOf n ps r) κs → O) → Type 0
+Determines n ps r Post f =
+    (κs : Lfts n) (a : Dens κs ps) (x y : resT r κs .Denot) (s t : AtExit (endedOf n ps r) κs) → Post κs a x s → Post κs a y t → f κs x s ≡ f κs y t
+
+-- ---- parity
+
+pub parity-determined : Determines {O = ℕ} 1 parity.ps parity.r parity-promise.Post (λ κs r e. r)
+parity-determined κs a x y s t p q = p ∙ sym q
+
+-- ---- trace
+
+pub trace-start-byte-determined : Determines {O = ℕ} 1 trace-start-byte.ps trace-start-byte.r trace-start-byte-promise.Post (λ κs r e. r)
+trace-start-byte-determined κs a x y s t p q = p ∙ sym q
+
+pub trace-good-message-determined : Determines {O = Bool} 1 trace-good-message.ps trace-good-message.r trace-good-message-promise.Post (λ κs r e. r)
+trace-good-message-determined κs a x y s t p q = p ∙ sym q
+
+pub trace-check-determined : Determines {O = Bool} 1 trace-check.ps trace-check.r trace-check-promise.Post (λ κs r e. r)
+trace-check-determined κs a x y s t p q = p ∙ sym q
+
+pub trace-same-determined : Determines {O = Bool} 2 trace-same.ps trace-same.r trace-same-promise.Post (λ κs r e. r)
+trace-same-determined κs a x y s t p q = p ∙ sym q
+
+-- ---- settings
+
+pub settings-label-refused-determined : Determines {O = Bool} 0 settings-label-refused.ps settings-label-refused.r settings-label-refused-promise.Post (λ κs r e. r)
+settings-label-refused-determined κs a x y s t p q = p ∙ sym q
+
+pub settings-trace-refused-determined : Determines {O = Bool} 1 settings-trace-refused.ps settings-trace-refused.r settings-trace-refused-promise.Post (λ κs r e. r)
+settings-trace-refused-determined κs a x y s t p q = p ∙ sym q
+
+-- ---- word
+
+pub word-of-determined : Determines {O = ℕ} 0 word-of.ps word-of.r word-of-promise.Post (λ κs r e. r)
+word-of-determined κs a x y s t p q = p ∙ sym q
+
+pub word-h1-determined : Determines {O = ℕ} 0 word-h1.ps word-h1.r word-h1-promise.Post (λ κs r e. r)
+word-h1-determined κs a x y s t p q = p ∙ sym q
+
+pub word-h2-determined : Determines {O = ℕ} 0 word-h2.ps word-h2.r word-h2-promise.Post (λ κs r e. r)
+word-h2-determined κs a x y s t p q = p ∙ sym q
+
+pub word-kind-determined : Determines {O = ℕ} 0 word-kind.ps word-kind.r word-kind-promise.Post (λ κs r e. r)
+word-kind-determined κs a x y s t p q = p ∙ sym q
+
+pub word-ss-determined : Determines {O = ℕ} 0 word-ss.ps word-ss.r word-ss-promise.Post (λ κs r e. r)
+word-ss-determined κs a x y s t p q = p ∙ sym q
+
+pub word-value-determined : Determines {O = ℕ} 0 word-value.ps word-value.r word-value-promise.Post (λ κs r e. r)
+word-value-determined κs a x y s t p q = p ∙ sym q
+
+pub word-reading-determined : Determines {O = ℕ} 1 word-reading.ps word-reading.r word-reading-promise.Post (λ κs r e. r)
+word-reading-determined κs a x y s t p q = p ∙ sym q
+
+pub word-of-kind-determined : Determines {O = Bool} 0 word-of-kind.ps word-of-kind.r word-of-kind-promise.Post (λ κs r e. r)
+word-of-kind-determined κs a x y s t p q = p ∙ sym q
+
+pub word-is-good-determined : Determines {O = Bool} 0 word-is-good.ps word-is-good.r word-is-good-promise.Post (λ κs r e. r)
+word-is-good-determined κs a x y s t p q = p ∙ sym q
+
+pub word-inverted-at-determined : Determines {O = ℕ} 0 word-inverted-at.ps word-inverted-at.r word-inverted-at-promise.Post (λ κs r e. r)
+word-inverted-at-determined κs a x y s t p q = p ∙ sym q
+
+pub word-plain-determined : Determines {O = ℕ} 0 word-plain.ps word-plain.r word-plain-promise.Post (λ κs r e. r)
+word-plain-determined κs a x y s t p q = p ∙ sym q
+
+pub word-adjusting-determined : Determines {O = ℕ} 0 word-adjusting.ps word-adjusting.r word-adjusting-promise.Post (λ κs r e. r)
+word-adjusting-determined κs a x y s t p q = p ∙ sym q
+
+-- ---- catalogue
+
+pub catalogue-check-determined : Determines {O = Checked} 1 catalogue-check.ps catalogue-check.r catalogue-check-promise.Post (λ κs r e. r)
+catalogue-check-determined κs a x y s t p q = p ∙ sym q
+
+pub catalogue-lookup-determined : Determines {O = Looked} 1 catalogue-lookup.ps catalogue-lookup.r catalogue-lookup-promise.Post (λ κs r e. r)
+catalogue-lookup-determined κs a x y s t p q = p ∙ sym q
+
+pub catalogue-number-determined : Determines {O = ℕ} 0 catalogue-number.ps catalogue-number.r catalogue-number-promise.Post (λ κs r e. r)
+catalogue-number-determined κs a x y s t p q = p ∙ sym q
+
+-- ---- card
+
+pub card-parity-determined : Determines {O = ℕ} 1 card-parity.ps card-parity.r card-parity-promise.Post (λ κs r e. r)
+card-parity-determined κs a x y s t p q = p ∙ sym q
+
+pub card-trace-check-determined : Determines {O = Bool} 1 card-trace-check.ps card-trace-check.r card-trace-check-promise.Post (λ κs r e. r)
+card-trace-check-determined κs a x y s t p q = p ∙ sym q
+
+pub card-word-reading-determined : Determines {O = ℕ} 1 card-word-reading.ps card-word-reading.r card-word-reading-promise.Post (λ κs r e. r)
+card-word-reading-determined κs a x y s t p q = p ∙ sym q
+
+-- ---- what is read of a catalogue's record: the bytes of the part that is handed back
+
+pub catalogue-record-at-determined : Determines {O = List ℕ} 1 catalogue-record-at.ps catalogue-record-at.r catalogue-record-at-promise.Post (λ κs r e. now r)
+catalogue-record-at-determined κs a x y s t p q = p .0 ∙ sym (q .0)
+
+pub catalogue-trace-determined : Determines {O = List ℕ} 1 catalogue-trace.ps catalogue-trace.r catalogue-trace-promise.Post (λ κs r e. now r)
+catalogue-trace-determined κs a x y s t p q = p .0 ∙ sym (q .0)
+
+pub catalogue-circuit-determined : Determines {O = ℕ} 1 catalogue-circuit.ps catalogue-circuit.r catalogue-circuit-promise.Post (λ κs r e. r)
+catalogue-circuit-determined κs a x y s t p q = p ∙ sym q
+
+-- ---- lent buffers: every byte of them. A parameter's list at exit stands at its place among the parameters
+
+pub copier-copy-determined : Determines {O = List ℕ} 2 copier-copy.ps copier-copy.r copier-copy-promise.Post (λ κs r e. now (e .1 .0))
+copier-copy-determined κs a x y s t p q = p ∙ sym q
+
+pub copier-fill-determined : Determines {O = List ℕ} 1 copier-fill.ps copier-fill.r copier-fill-promise.Post (λ κs r e. now (e .0))
+copier-fill-determined κs a x y s t p q = p ∙ sym q
+
+pub copier-copy-at-determined : Determines {O = List ℕ} 2 copier-copy-at.ps copier-copy-at.r copier-copy-at-promise.Post (λ κs r e. now (e .1 .0))
+copier-copy-at-determined κs a x y s t p q = p ∙ sym q
+
+-- an answer and a buffer
+pub record Left : Type 0 where
+  pub answer : ℕ
+  pub buffer : List ℕ
+
+left-same : {m n : ℕ} {b c : List ℕ} → m ≡ n → b ≡ c → _≡_ {A = Left} (record { answer = m; buffer = b }) (record { answer = n; buffer = c })
+left-same d e = rw (d, e)
+
+-- what is written, and the place after it
+written-same : {at n m : ℕ} {piece before b c : List ℕ} → Written at piece before b n → Written at piece before c m → _≡_ {A = Left} (record { answer = n; buffer = b }) (record { answer = m; buffer = c })
+written-same p q = left-same (p .next-is ∙ sym (q .next-is)) (p .now-is ∙ sym (q .now-is))
+
+pub text-bytes-determined : Determines {O = Left} 2 text-bytes.ps text-bytes.r text-bytes-promise.Post (λ κs r e. record { answer = r; buffer = now (e .0) })
+text-bytes-determined κs a x y s t p q = written-same p q
+
+pub text-byte-determined : Determines {O = Left} 1 text-byte.ps text-byte.r text-byte-promise.Post (λ κs r e. record { answer = r; buffer = now (e .0) })
+text-byte-determined κs a x y s t p q = written-same p q
+
+pub text-decimal-determined : Determines {O = Left} 1 text-decimal.ps text-decimal.r text-decimal-promise.Post (λ κs r e. record { answer = r; buffer = now (e .0) })
+text-decimal-determined κs a x y s t p q = written-same p q
+
+pub text-hex-determined : Determines {O = Left} 1 text-hex.ps text-hex.r text-hex-promise.Post (λ κs r e. record { answer = r; buffer = now (e .0) })
+text-hex-determined κs a x y s t p q = written-same p q
+
+pub listing-list-determined : Determines {O = Left} 2 listing-list.ps listing-list.r listing-list-promise.Post (λ κs r e. record { answer = r; buffer = now (e .1 .0) })
+listing-list-determined κs a x y s t p q = left-same (p .length-is ∙ sym (q .length-is)) (p .now-is ∙ sym (q .now-is))

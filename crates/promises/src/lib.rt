@@ -1,0 +1,1 @@
+// No code: that each public promise allows one outcome only, in proofs/.
