@@ -1,3 +1,4 @@
+-- `catalogue::circuit` meets its contract: two bytes, high first, and no overflow. Assumes nothing.
 use Rattle.catalogue.specs.Record.{circuitIn}
 use native.Mathlib.Omega.{arith}
 use borrow.Author.Needs.{needs}

@@ -1,3 +1,4 @@
+-- `catalogue::circuit_refused` meets its contract. Assumes nothing.
 use Rattle.catalogue.specs.Record.{circuitRefused}
 use mathlib.Core.Path.{refl}
 use Rattle.catalogue.proofs.circuit_refused.Statement.{statement}

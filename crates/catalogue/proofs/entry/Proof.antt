@@ -1,3 +1,4 @@
+-- `catalogue::entry` meets its contract: the characters are a copy of the record's. Assumes nothing.
 use Rattle.catalogue.proofs.Places.{entry-made}
 use borrow.Author.Needs.{needs}
 use Rattle.catalogue.proofs.entry.Statement.{statement}

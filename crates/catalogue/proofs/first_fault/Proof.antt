@@ -1,3 +1,4 @@
+-- `catalogue::first_fault` meets its contract: nothing is wrong with the records before k, so those from k on decide. Assumes nothing.
 use mathlib.Core.Path.{_≡_}
 use Prim.Native.Nat.{_-_, _≤_}
 use native.Mathlib.Omega.{arith}

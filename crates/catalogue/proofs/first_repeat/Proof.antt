@@ -1,3 +1,4 @@
+-- `catalogue::first_repeat` meets its contract: no pair before the one looked at has one trace, so those still to come decide. Assumes nothing.
 use mathlib.Core.Path.{_≡_}
 use Prim.Native.Nat.{_+_, _-_, _≤_, _<_}
 use native.Mathlib.Omega.{arith}

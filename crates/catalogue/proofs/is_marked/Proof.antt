@@ -1,3 +1,4 @@
+-- `catalogue::is_marked` meets its contract. Assumes nothing.
 use Rattle.catalogue.specs.Record.{marked}
 use mathlib.Core.Path.{refl}
 use borrow.Author.Needs.{needs}

@@ -1,3 +1,4 @@
+-- `catalogue::length_refused` meets its contract. Assumes nothing.
 use Rattle.catalogue.specs.Record.{lengthRefused}
 use mathlib.Core.Path.{refl}
 use Rattle.catalogue.proofs.length_refused.Statement.{statement}

@@ -1,3 +1,4 @@
+-- `catalogue::number` meets its contract: a number for each case. Assumes nothing.
 use Rattle.catalogue.specs.Refusals.{numberOf}
 use borrow.Author.Needs.{needs}
 use Rattle.catalogue.proofs.number.Statement.{statement}

@@ -1,3 +1,4 @@
+-- `catalogue::record_at` meets its contract: the part is 21 bytes from 21 times k. Assumes nothing.
 use Rattle.catalogue.proofs.Places.{record-length}
 use Rattle.catalogue.proofs.Places.{record-part}
 use borrow.Author.Needs.{needs}

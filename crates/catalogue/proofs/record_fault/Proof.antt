@@ -1,3 +1,4 @@
+-- `catalogue::record_fault` meets its contract: the first test that says so decides, in the order of `recordFaults`. Assumes nothing.
 use Rattle.catalogue.proofs.Faults.{fault-mark, fault-circuit, fault-label, fault-trace, fault-flags, fault-none}
 use borrow.Author.Needs.{needs}
 use Rattle.catalogue.proofs.record_fault.Statement.{statement}

@@ -1,3 +1,4 @@
+-- `catalogue::trace` meets its contract: the part is 15 bytes from place 5. Assumes nothing.
 use Rattle.catalogue.proofs.Places.{trace-length}
 use Rattle.catalogue.specs.Record.{traceIn}
 use mathlib.Core.Path.{refl}

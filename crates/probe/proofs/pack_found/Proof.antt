@@ -1,3 +1,4 @@
+-- `probe::pack_found` meets its contract: each answer is packed as its definition says. Assumes nothing.
 use Rattle.probe.specs.Probe.{packedFound}
 use borrow.Author.Needs.{needs}
 use Rattle.probe.proofs.pack_found.Statement.{statement}

@@ -1,3 +1,4 @@
+-- `probe::pack_refusal` meets its contract: for each refusal, its number and its places. Assumes nothing.
 use Rattle.catalogue.specs.Refusals.{placesOf}
 use Rattle.probe.specs.Probe.{packed}
 use borrow.Author.Needs.{needs}

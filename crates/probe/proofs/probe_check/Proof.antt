@@ -1,3 +1,4 @@
+-- `probe::probe_check` meets its contract: each answer is packed as its definition says. Assumes nothing.
 use Rattle.probe.specs.Probe.{packedCheck}
 use borrow.Author.Needs.{needs}
 use Rattle.probe.proofs.probe_check.Statement.{statement}

@@ -1,3 +1,4 @@
+-- `probe::probe_lookup` meets its contract: the answer is packed, and the characters are those that lookup found. Assumes nothing.
 use borrow.Author.Needs.{needs}
 use Rattle.probe.proofs.probe_lookup.Statement.{statement}
 use Rattle.probe.proofs.probe_lookup.Tie as tie
