@@ -61,7 +61,7 @@ pub record Short (digits x n : ℕ) : Type 0 where
   pub is : n ≡ x
   pub short : length (decimalOf n) ≤ digits
 
--- a piece was written, of so many bytes at most. A line is at most 31: a number of five digits, a label of two, 15 characters,
+-- a piece was written, of so many bytes at most. A line of any record is at most 31: a number of five digits, a label of two, 15 characters,
 -- flags of three digits, and six bytes between and after them
 pub record Within (most at : ℕ) (piece before after : List ℕ) (next : ℕ) : Type 0 where
   pub written : Written at piece before after next

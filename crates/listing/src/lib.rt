@@ -135,8 +135,8 @@ fn refusal_line(out: &mut [u8], x: Refusal) -> usize
     text::byte(out, b, 0x0a)
 }
 
-// The listing, written from the start of the buffer on; the answer is its length. The buffer is as long as the longest listing:
-// the heading of 26 bytes, and 512 lines of at most 31.
+// The listing, written from the start of the buffer on; the answer is its length. The buffer has room for the heading of 26 bytes and
+// 512 lines of 31, whatever bytes a record holds; the records of a good catalogue make lines of at most 29.
 pub fn list(s: &[u8], out: &mut [u8; 15898]) -> usize
     ensures { λ n. ⌜ Listed (now (s .entry)) (now (out .entry)) (now (out .exit)) n ⌝ }
 {
