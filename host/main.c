@@ -12,7 +12,7 @@
 
 #include "card.h"
 
-enum { LONGEST = 4096 }; /* bytes in one line */
+enum { LONGEST = 4096, LONGEST_LINE = 2 * LONGEST + 8 }; /* bytes that a line may stand for, and characters that it may have */
 
 static int digit(int c)
 {
@@ -69,21 +69,32 @@ static bool answer(const char *line)
     return true;
 }
 
+/* The next line without its end, or -1 where there is none; LONGEST_LINE + 1 for a longer one, of which the rest is passed over. */
+static long next_line(char *line)
+{
+    long n = 0;
+    int c;
+    while ((c = getchar()) != EOF && c != '\n') {
+        if (n < LONGEST_LINE)
+            line[n] = c == '\0' ? '?' : (char)c; /* no line that is understood has a 00 in it */
+        if (n <= LONGEST_LINE)
+            n++;
+    }
+    if (c == EOF && n == 0)
+        return -1;
+    line[n < LONGEST_LINE ? n : LONGEST_LINE] = '\0';
+    return n;
+}
+
 int main(void)
 {
-    static char line[2 * LONGEST + 16];
+    static char line[LONGEST_LINE + 1];
     unsigned long number = 0;
+    long n;
 
-    while (fgets(line, sizeof line, stdin) != NULL) {
-        size_t n = strlen(line);
-        bool whole = n > 0 && line[n - 1] == '\n';
+    while ((n = next_line(line)) >= 0) {
         number++;
-        if (whole)
-            line[n - 1] = '\0';
-        else
-            for (int c; (c = getchar()) != EOF && c != '\n';)
-                whole = false; /* the rest of a line that is too long */
-        if (!(whole || n + 1 < sizeof line) || !answer(line))
+        if (n > LONGEST_LINE || !answer(line))
             printf("? %lu\n", number);
     }
     return 0;

@@ -136,6 +136,10 @@ def odd(host):
             ("parity GG", "? 9"),
             ("parities 00", "? 10"),
             ("", "? 11"),
+            ("parity 0\0", "? 12"),
+            ("parity " + "00" * 4096, "parity 00"),
+            ("parity " + "00" * 4097, "? 14"),
+            ("read 6800", "read 6144"),
         ],
         "odd lengths and odd lines",
     )

@@ -3,3 +3,4 @@ pub mod Faults
 pub mod Scan
 pub mod Answers
 pub mod Repeats
+pub mod Examples
