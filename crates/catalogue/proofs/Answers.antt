@@ -6,15 +6,17 @@ use Prim.Native.Nat.{ℕ, _*_, _/_, _%_, _≤_}
 use native.Mathlib.Omega.{arith}
 use borrow.Author.Tests.{eqb-true, ltb-false}
 use lib.Dec.{eqb, ltb}
-use lib.ListN.{length}
-use Rattle.catalogue.specs.Record.{lengthRefused}
-use Rattle.catalogue.specs.Catalogue.{due, faultsFrom, repeatsFrom, records, faults, firstOf, answerOf, checkOf, notFound, findFrom, lookedUp, lookupOf}
-use Rattle.catalogue.specs.declared.Refusal.{Refusal}
-use Rattle.catalogue.specs.declared.Refusal.the-variants.{Length}
-use Rattle.catalogue.specs.declared.First.{First}
-use Rattle.catalogue.specs.declared.First.the-variants.{Of, Nothing}
+use lib.ListN.{length, getD}
+use Rattle.records.specs.Record.{labelIn, traceIn, flagsIn}
+use Rattle.records.specs.Faults.{due, firstOf}
+use Rattle.catalogue.specs.Catalogue.{lengthRefused, faultsFrom, repeatsFrom, records, faults, answerOf, checkOf, entryOf, notFound, findFrom, lookedUp, lookupOf}
+use Rattle.records.specs.declared.Refusal.{Refusal}
+use Rattle.records.specs.declared.Refusal.the-variants.{Length}
+use Rattle.records.specs.declared.First.{First}
+use Rattle.records.specs.declared.First.the-variants.{Of, Nothing}
 use Rattle.catalogue.specs.declared.Checked.{Checked}
 use Rattle.catalogue.specs.declared.Checked.the-variants.{Good, Refused}
+use Rattle.catalogue.specs.declared.Found.the-variants.{Entry}
 use Rattle.catalogue.specs.declared.Looked.{Looked}
 use Rattle.catalogue.proofs.Scan.{first-hit, first-rest}
 
@@ -92,3 +94,10 @@ module _ (s : List ℕ) (number : ℕ) (c : Checked) (is-c : c ≡ checkOf s) wh
   pub lookup-refused : (x : Refusal) (a : Looked) → c ≡ Refused x → a ≡ notFound x → a ≡ lookupOf s number
   unfolding lookupOf lookedUp
   lookup-refused x a e is-a = is-a ∙ rw (← is-c, e)
+
+-- ---- entryOf
+
+-- the answer of a record's own bytes, with the characters copied
+pub entry-made : (r t x : List ℕ) → t ≡ traceIn r → x ≡ t → record { found = Entry (getD r 4 0) (getD r 20 0); trace = x } ≡ entryOf r
+unfolding entryOf labelIn flagsIn
+entry-made r t x is-t is-x = rw (is-x, is-t)

@@ -1,14 +1,14 @@
 -- Worked examples of the definitions, computed by the check: 01's own record, and the order of refusals as one table. Assumes nothing.
 use mathlib.Core.Path.{_≡_, refl}
-use mathlib.Core.Bool.{cond, _&&_, _||_, not}
 use mathlib.Core.List.{List, [], _∷_, _++_, map}
 use Prim.Native.Nat.{ℕ}
 use lib.ListN.{replicate}
 use Rattle.settings.specs.Settings.{labelRefused, outside, traceRefused}
 use Rattle.trace.specs.Check.{alike}
-use Rattle.catalogue.specs.Record.{recordAt, marked, circuitIn, labelIn, traceIn, flagsIn, lengthRefused, circuitRefused, flagsRefused}
-use Rattle.catalogue.specs.Catalogue.{due, recordFaults, faultsFrom, oneTrace, repeatsIn, repeatsFrom, records, faults, firstOf, answerOf, checkOf, entryOf, notFound, findFrom, lookedUp, lookupOf}
-use Rattle.catalogue.specs.declared.Refusal.the-variants.{Length, Mark, Circuit, Label, Trace, Flags, Repeated, NotListed}
+use Rattle.records.specs.Record.{recordAt, marked, circuitIn, labelIn, traceIn, flagsIn, circuitRefused, flagsRefused}
+use Rattle.records.specs.Faults.{due, recordFaults, firstOf}
+use Rattle.catalogue.specs.Catalogue.{lengthRefused, faultsFrom, oneTrace, repeatsIn, repeatsFrom, records, faults, answerOf, checkOf, entryOf, notFound, findFrom, lookedUp, lookupOf}
+use Rattle.records.specs.declared.Refusal.the-variants.{Length, Mark, Circuit, Label, Trace, Flags, Repeated, NotListed}
 use Rattle.catalogue.specs.declared.Checked.{Checked}
 use Rattle.catalogue.specs.declared.Checked.the-variants.{Good, Refused}
 use Rattle.catalogue.specs.declared.Found.the-variants.{Entry}

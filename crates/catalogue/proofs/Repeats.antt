@@ -11,12 +11,13 @@ use lib.ListN.{length}
 use Rattle.laws.proofs.Tests.{and-left, and-right}
 use Rattle.settings.specs.Settings.{labelRefused, traceRefused}
 use Rattle.trace.proofs.Alike.{alike-same, unlike}
-use Rattle.catalogue.specs.Record.{recordAt, marked, circuitIn, labelIn, traceIn, flagsIn, lengthRefused, circuitRefused, flagsRefused}
-use Rattle.catalogue.specs.Catalogue.{due, recordFaults, faultsFrom, oneTrace, repeatsIn, repeatsFrom, records, faults, firstOf, answerOf, checkOf}
-use Rattle.catalogue.specs.declared.Refusal.{Refusal}
-use Rattle.catalogue.specs.declared.Refusal.the-variants.{Length, Mark, Circuit, Label, Trace, Flags, Repeated, NotListed}
-use Rattle.catalogue.specs.declared.First.{First}
-use Rattle.catalogue.specs.declared.First.the-variants.{Of, Nothing}
+use Rattle.records.specs.Record.{recordAt, marked, circuitIn, labelIn, traceIn, flagsIn, circuitRefused, flagsRefused}
+use Rattle.records.specs.Faults.{due, recordFaults, firstOf}
+use Rattle.catalogue.specs.Catalogue.{lengthRefused, faultsFrom, oneTrace, repeatsIn, repeatsFrom, records, faults, answerOf, checkOf}
+use Rattle.records.specs.declared.Refusal.{Refusal}
+use Rattle.records.specs.declared.Refusal.the-variants.{Length, Mark, Circuit, Label, Trace, Flags, Repeated, NotListed}
+use Rattle.records.specs.declared.First.{First}
+use Rattle.records.specs.declared.First.the-variants.{Of, Nothing}
 use Rattle.catalogue.specs.declared.Checked.the-variants.{Good, Refused}
 use Rattle.catalogue.proofs.Scan.{first-hit, first-rest}
 

@@ -7,12 +7,13 @@ use Prim.Native.Nat.{ℕ, suc, _+_, _-_, _<_, _≤_}
 use native.Mathlib.Omega.{arith}
 use borrow.Author.Tests.{eq-eqb, ne-eqb}
 use Rattle.trace.specs.Check.{alike}
-use Rattle.catalogue.specs.Record.{recordAt, circuitIn, traceIn}
-use Rattle.catalogue.specs.Catalogue.{due, recordFaults, faultsFrom, oneTrace, repeatsIn, repeatsFrom, firstOf, entryOf, notFound, findFrom}
-use Rattle.catalogue.specs.declared.Refusal.{Refusal}
-use Rattle.catalogue.specs.declared.Refusal.the-variants.{Repeated, NotListed}
-use Rattle.catalogue.specs.declared.First.{First}
-use Rattle.catalogue.specs.declared.First.the-variants.{Of, Nothing}
+use Rattle.records.specs.Record.{recordAt, circuitIn, traceIn}
+use Rattle.records.specs.Faults.{due, recordFaults, firstOf}
+use Rattle.catalogue.specs.Catalogue.{faultsFrom, oneTrace, repeatsIn, repeatsFrom, entryOf, notFound, findFrom}
+use Rattle.records.specs.declared.Refusal.{Refusal}
+use Rattle.records.specs.declared.Refusal.the-variants.{Repeated, NotListed}
+use Rattle.records.specs.declared.First.{First}
+use Rattle.records.specs.declared.First.the-variants.{Of, Nothing}
 use Rattle.catalogue.specs.declared.Looked.{Looked}
 
 -- one less is left: what recurses on `suc` is met by a loop that counts up

@@ -1,37 +1,34 @@
 -- The catalogue reader of 01: all that is wrong with a file, in the order in which 01 refuses, and the answer, which is the first of it.
 -- "Catalogue: 9, then record by record 10, 11, 4, 5, 12 with the record's place from 1, then 13."
-use Prim.Native.Nat.{ℕ, zero, suc, _+_, _/_}
-use mathlib.Core.Bool.{Bool, cond, not}
+use Prim.Native.Nat.{ℕ, zero, suc, _+_, _/_, _%_}
+use mathlib.Core.Bool.{Bool, cond, not, _||_}
 use mathlib.Core.List.{List, [], _∷_, _++_}
-use lib.Dec.{eqb}
+use lib.Dec.{eqb, ltb}
 use lib.ListN.{length, replicate}
-use Rattle.settings.specs.Settings.{labelRefused, traceRefused}
 use Rattle.trace.specs.Check.{alike}
-use Rattle.catalogue.specs.Record.{recordLength, recordAt, marked, circuitIn, labelIn, traceIn, flagsIn, lengthRefused, circuitRefused, flagsRefused}
-use Rattle.catalogue.specs.declared.Refusal.{Refusal}
-use Rattle.catalogue.specs.declared.Refusal.the-variants.{Length, Mark, Circuit, Label, Trace, Flags, Repeated, NotListed}
-use Rattle.catalogue.specs.declared.First.{First}
-use Rattle.catalogue.specs.declared.First.the-variants.{Of, Nothing}
+use Rattle.records.specs.Record.{recordLength, recordAt, circuitIn, labelIn, traceIn, flagsIn}
+use Rattle.records.specs.Faults.{due, recordFaults, firstOf}
+use Rattle.records.specs.declared.Refusal.{Refusal}
+use Rattle.records.specs.declared.Refusal.the-variants.{Length, Repeated, NotListed}
+use Rattle.records.specs.declared.First.{First}
+use Rattle.records.specs.declared.First.the-variants.{Of, Nothing}
 use Rattle.catalogue.specs.declared.Checked.{Checked}
 use Rattle.catalogue.specs.declared.Checked.the-variants.{Good, Refused}
 use Rattle.catalogue.specs.declared.Found.{Found}
 use Rattle.catalogue.specs.declared.Found.the-variants.{Entry, Not}
 use Rattle.catalogue.specs.declared.Looked.{Looked}
 
+-- ---- the length
+
+-- "at most 512" records
+abbrev pub mostBytes : ℕ
+mostBytes = 10752
+
+-- refusal 9: "catalogue length no multiple of 21, or above 10,752"
+unfoldable pub lengthRefused : ℕ → Bool
+lengthRefused n = not (eqb (n % recordLength) 0) || ltb mostBytes n
+
 -- ---- what is wrong
-
--- a refusal that is due, or none
-unfoldable pub due : Bool → Refusal → List Refusal
-due b x = cond b (x ∷ []) []
-
--- with one record, at its place: "10, 11, 4, 5, 12"
-unfoldable pub recordFaults : ℕ → List ℕ → List Refusal
-recordFaults place r =
-    due (not (marked r)) (Mark place)
-    ++ (due (circuitRefused (circuitIn r)) (Circuit place)
-    ++ (due (labelRefused (labelIn r)) (Label place)
-    ++ (due (traceRefused (traceIn r)) (Trace place)
-    ++ due (flagsRefused (flagsIn r)) (Flags place))))
 
 -- with the n records from record k on, "record by record"
 unfoldable pub faultsFrom : List ℕ → ℕ → ℕ → List Refusal
@@ -61,10 +58,6 @@ unfoldable pub faults : List ℕ → List Refusal
 faults s = due (lengthRefused (length s)) Length ++ (faultsFrom s 0 (records s) ++ repeatsFrom s 0 (records s))
 
 -- ---- the answer
-
-unfoldable pub firstOf : List Refusal → First
-firstOf [] = Nothing
-firstOf (x ∷ xs) = Of x
 
 -- good, with so many records, where nothing is wrong; else refused for the first thing that is
 unfoldable pub answerOf : ℕ → First → Checked

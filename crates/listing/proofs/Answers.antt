@@ -9,7 +9,7 @@ use Rattle.copier.proofs.Put.{length-piece}
 use Rattle.text.specs.Text.{Written}
 use Rattle.text.proofs.Pieces.{written-then}
 use Rattle.catalogue.specs.Catalogue.{checkOf}
-use Rattle.catalogue.specs.declared.Refusal.{Refusal}
+use Rattle.records.specs.declared.Refusal.{Refusal}
 use Rattle.catalogue.specs.declared.Checked.{Checked}
 use Rattle.catalogue.specs.declared.Checked.the-variants.{Good, Refused}
 use Rattle.catalogue.proofs.Answers.{good-length}

@@ -3,9 +3,9 @@ use mathlib.Core.Path.{_≡_, refl}
 use mathlib.Core.List.{[], _∷_, _++_}
 use lib.ListN.{replicate}
 use Rattle.text.specs.Text.{decimalIn, decimalOf, hexDigit}
-use Rattle.catalogue.specs.Record.{circuitIn, labelIn, traceIn, flagsIn}
-use Rattle.catalogue.specs.Refusals.{numberOf, placesOf}
-use Rattle.catalogue.specs.declared.Refusal.the-variants.{Length, Repeated}
+use Rattle.records.specs.Record.{circuitIn, labelIn, traceIn, flagsIn}
+use Rattle.records.specs.Refusals.{numberOf, placesOf}
+use Rattle.records.specs.declared.Refusal.the-variants.{Length, Repeated}
 use Rattle.listing.specs.Listing.{numberAndLabel, traceAndFlags, lineOf, spaced, refusalLine}
 
 -- "5A 4D 00 07 12, `03E5` with eleven spaces, 0F": `7 12 [03E5           ] 15`

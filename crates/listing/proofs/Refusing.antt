@@ -7,9 +7,9 @@ use lib.ListN.{length}
 use Rattle.text.specs.Text.{decimalOf, Written}
 use Rattle.text.proofs.Digits.{length-most}
 use Rattle.text.proofs.Pieces.{length-written, written-none}
-use Rattle.catalogue.specs.Refusals.{numberOf, placesOf}
-use Rattle.catalogue.specs.declared.Refusal.{Refusal}
-use Rattle.catalogue.specs.declared.Refusal.the-variants.{Length, Repeated, NotListed}
+use Rattle.records.specs.Refusals.{numberOf, placesOf}
+use Rattle.records.specs.declared.Refusal.{Refusal}
+use Rattle.records.specs.declared.Refusal.the-variants.{Length, Repeated, NotListed}
 use Rattle.listing.specs.Listing.{spaced, refusalLine, Short, Within}
 use Rattle.listing.proofs.Writing.{within, within-number, within-then}
 

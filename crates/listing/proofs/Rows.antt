@@ -7,7 +7,7 @@ use native.Mathlib.Numerals.{add-one}
 use native.Mathlib.Omega.{arith}
 use lib.ListN.{length}
 use Rattle.text.proofs.Pieces.{written-none}
-use Rattle.catalogue.specs.Record.{recordAt}
+use Rattle.records.specs.Record.{recordAt}
 use Rattle.listing.specs.Listing.{lineOf, linesFrom, Within}
 use Rattle.listing.proofs.Writing.{within, within-then}
 

@@ -7,7 +7,7 @@ use lib.ListN.{length, getD}
 use Rattle.text.specs.Text.{decimalOf, hexOf, Written}
 use Rattle.text.proofs.Digits.{length-decimal}
 use Rattle.text.proofs.Pieces.{written-then}
-use Rattle.catalogue.specs.Record.{circuitIn, labelIn, traceIn, flagsIn}
+use Rattle.records.specs.Record.{circuitIn, labelIn, traceIn, flagsIn}
 use Rattle.listing.specs.Listing.{numberAndLabel, traceAndFlags, lineOf, Short, Within}
 
 -- ---- Within

@@ -6,10 +6,10 @@ use mathlib.Core.List.{List, [], _∷_, _++_}
 use lib.ListN.{length}
 use Rattle.copier.specs.Put.{put}
 use Rattle.text.specs.Text.{decimalOf, hexOf, Written}
-use Rattle.catalogue.specs.Record.{recordAt, circuitIn, labelIn, traceIn, flagsIn}
-use Rattle.catalogue.specs.Refusals.{numberOf, placesOf}
+use Rattle.records.specs.Record.{recordAt, circuitIn, labelIn, traceIn, flagsIn}
+use Rattle.records.specs.Refusals.{numberOf, placesOf}
 use Rattle.catalogue.specs.Catalogue.{checkOf}
-use Rattle.catalogue.specs.declared.Refusal.{Refusal}
+use Rattle.records.specs.declared.Refusal.{Refusal}
 use Rattle.catalogue.specs.declared.Checked.{Checked}
 use Rattle.catalogue.specs.declared.Checked.the-variants.{Good, Refused}
 

@@ -1,14 +1,14 @@
 // The listing of a catalogue as text, in a lent buffer: the heading and a line for each record, or the one line of a refusal.
 // What it is stands in specs/Listing.antt. The program `list` prints it.
 use catalogue::Checked;
-use catalogue::Refusal;
+use records::Refusal;
 ghost use mathlib.Core.Path.{_≡_};
 ghost use mathlib.Core.List.{_∷_, _++_};
 ghost use Prim.Native.Nat.{_+_, _*_, _<_, _≤_};
 ghost use lib.ListN.{length};
 ghost use Rattle.text.specs.Text.{decimalOf, Written};
-ghost use Rattle.catalogue.specs.Record.{circuitIn, flagsIn};
-ghost use Rattle.catalogue.specs.Refusals.{numberOf, placesOf};
+ghost use Rattle.records.specs.Record.{circuitIn, flagsIn};
+ghost use Rattle.records.specs.Refusals.{numberOf, placesOf};
 ghost use Rattle.listing.specs.Listing.{heading, numberAndLabel, traceAndFlags, lineOf, linesFrom, spaced, refusalLine, Short, Within, Listed};
 
 // A byte as a number of 64 bits.
@@ -23,7 +23,7 @@ fn circuit(r: &[u8]) -> u64
     requires { ⌜ length (now r) ≡ 21 ⌝ }
     ensures { λ n. ⌜ Short 5 (circuitIn (now (r .entry))) n ⌝ }
 {
-    catalogue::circuit(r) as u64
+    records::circuit(r) as u64
 }
 
 // A record's flags, of one byte.
@@ -50,7 +50,7 @@ fn trace_and_flags(out: &mut [u8], at: usize, r: &[u8]) -> usize
     ensures { λ n. ⌜ Within 21 at (traceAndFlags (now (r .entry))) (now (out .entry)) (now (out .exit)) n ⌝ }
 {
     let a = text::byte(out, at, 0x5b);
-    let b = text::bytes(out, a, catalogue::trace(r));
+    let b = text::bytes(out, a, records::trace(r));
     let c = text::bytes(out, b, b"] ");
     text::decimal(out, c, flags(r))
 }
@@ -74,7 +74,7 @@ fn lines(out: &mut [u8], at: usize, s: &[u8], n: usize) -> usize
     let mut e = at;
     let mut k = 0;
     while k < n {
-        e = line(out, e, catalogue::record_at(s, k));
+        e = line(out, e, records::record_at(s, k));
         k += 1;
     }
     e
@@ -122,7 +122,7 @@ fn places(out: &mut [u8], at: usize, x: Refusal) -> usize
 fn number(x: Refusal) -> u64
     ensures { λ n. ⌜ Short 3 (numberOf x) n ⌝ }
 {
-    wide(catalogue::number(x))
+    wide(records::number(x))
 }
 
 // The one line of a refusal: its number and its places.

@@ -2,8 +2,8 @@
 use Prim.Native.Nat.{ℕ, _+_, _*_, _%_}
 use mathlib.Core.List.{List}
 use lib.ListN.{getD}
-use Rattle.catalogue.specs.Refusals.{numberOf, placesOf}
-use Rattle.catalogue.specs.declared.Refusal.{Refusal}
+use Rattle.records.specs.Refusals.{numberOf, placesOf}
+use Rattle.records.specs.declared.Refusal.{Refusal}
 use Rattle.catalogue.specs.declared.Checked.{Checked}
 use Rattle.catalogue.specs.declared.Checked.the-variants.{Good, Refused}
 use Rattle.catalogue.specs.declared.Found.{Found}

@@ -12,7 +12,7 @@ ghost use Rattle.listing.specs.Listing.{Listed};
 ghost use Rattle.probe.specs.Probe.{packed, packedCheck, packedFound};
 use catalogue::Checked;
 use catalogue::Found;
-use catalogue::Refusal;
+use records::Refusal;
 
 // The whole of `src` to `dst` where they are as long; else nothing.
 #[no_mangle]
@@ -73,7 +73,7 @@ fn pack(number: u8, place: usize, second: usize) -> u64
 fn pack_refusal(x: Refusal) -> u64
     ensures { λ r. ⌜ r ≡ packed x ⌝ }
 {
-    let n = catalogue::number(x);
+    let n = records::number(x);
     match x {
         Refusal::Length => pack(n, 0, 0),
         Refusal::Mark(p) => pack(n, p, 0),

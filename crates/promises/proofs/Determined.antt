@@ -53,8 +53,8 @@ use Rattle.catalogue.proofs.check.Kinds as catalogue-check
 use Rattle.catalogue.proofs.check.Reads as catalogue-check-promise
 use Rattle.catalogue.proofs.lookup.Kinds as catalogue-lookup
 use Rattle.catalogue.proofs.lookup.Reads as catalogue-lookup-promise
-use Rattle.catalogue.proofs.number.Kinds as catalogue-number
-use Rattle.catalogue.proofs.number.Reads as catalogue-number-promise
+use Rattle.records.proofs.number.Kinds as records-number
+use Rattle.records.proofs.number.Reads as records-number-promise
 use Rattle.card.proofs.card_parity.Kinds as card-parity
 use Rattle.card.proofs.card_parity.Reads as card-parity-promise
 use Rattle.card.proofs.card_trace_check.Kinds as card-trace-check
@@ -67,12 +67,12 @@ use Rattle.copier.proofs.fill.Kinds as copier-fill
 use Rattle.copier.proofs.fill.Reads as copier-fill-promise
 use Rattle.copier.proofs.copy_at.Kinds as copier-copy-at
 use Rattle.copier.proofs.copy_at.Reads as copier-copy-at-promise
-use Rattle.catalogue.proofs.record_at.Kinds as catalogue-record-at
-use Rattle.catalogue.proofs.record_at.Reads as catalogue-record-at-promise
-use Rattle.catalogue.proofs.circuit.Kinds as catalogue-circuit
-use Rattle.catalogue.proofs.circuit.Reads as catalogue-circuit-promise
-use Rattle.catalogue.proofs.trace.Kinds as catalogue-trace
-use Rattle.catalogue.proofs.trace.Reads as catalogue-trace-promise
+use Rattle.records.proofs.record_at.Kinds as records-record-at
+use Rattle.records.proofs.record_at.Reads as records-record-at-promise
+use Rattle.records.proofs.circuit.Kinds as records-circuit
+use Rattle.records.proofs.circuit.Reads as records-circuit-promise
+use Rattle.records.proofs.trace.Kinds as records-trace
+use Rattle.records.proofs.trace.Reads as records-trace-promise
 use Rattle.text.proofs.bytes.Kinds as text-bytes
 use Rattle.text.proofs.bytes.Reads as text-bytes-promise
 use Rattle.text.proofs.byte.Kinds as text-byte
@@ -162,8 +162,8 @@ catalogue-check-determined κs a x y s t p q = p ∙ sym q
 pub catalogue-lookup-determined : Determines {O = Looked} 1 catalogue-lookup.ps catalogue-lookup.r catalogue-lookup-promise.Post (λ κs r e. r)
 catalogue-lookup-determined κs a x y s t p q = p ∙ sym q
 
-pub catalogue-number-determined : Determines {O = ℕ} 0 catalogue-number.ps catalogue-number.r catalogue-number-promise.Post (λ κs r e. r)
-catalogue-number-determined κs a x y s t p q = p ∙ sym q
+pub records-number-determined : Determines {O = ℕ} 0 records-number.ps records-number.r records-number-promise.Post (λ κs r e. r)
+records-number-determined κs a x y s t p q = p ∙ sym q
 
 -- ---- card
 
@@ -176,16 +176,16 @@ card-trace-check-determined κs a x y s t p q = p ∙ sym q
 pub card-word-reading-determined : Determines {O = ℕ} 1 card-word-reading.ps card-word-reading.r card-word-reading-promise.Post (λ κs r e. r)
 card-word-reading-determined κs a x y s t p q = p ∙ sym q
 
--- ---- what is read of a catalogue's record: the bytes of the part that is handed back
+-- ---- records: what is read of one, the bytes of the part that is handed back
 
-pub catalogue-record-at-determined : Determines {O = List ℕ} 1 catalogue-record-at.ps catalogue-record-at.r catalogue-record-at-promise.Post (λ κs r e. now r)
-catalogue-record-at-determined κs a x y s t p q = p .0 ∙ sym (q .0)
+pub records-record-at-determined : Determines {O = List ℕ} 1 records-record-at.ps records-record-at.r records-record-at-promise.Post (λ κs r e. now r)
+records-record-at-determined κs a x y s t p q = p .0 ∙ sym (q .0)
 
-pub catalogue-trace-determined : Determines {O = List ℕ} 1 catalogue-trace.ps catalogue-trace.r catalogue-trace-promise.Post (λ κs r e. now r)
-catalogue-trace-determined κs a x y s t p q = p .0 ∙ sym (q .0)
+pub records-trace-determined : Determines {O = List ℕ} 1 records-trace.ps records-trace.r records-trace-promise.Post (λ κs r e. now r)
+records-trace-determined κs a x y s t p q = p .0 ∙ sym (q .0)
 
-pub catalogue-circuit-determined : Determines {O = ℕ} 1 catalogue-circuit.ps catalogue-circuit.r catalogue-circuit-promise.Post (λ κs r e. r)
-catalogue-circuit-determined κs a x y s t p q = p ∙ sym q
+pub records-circuit-determined : Determines {O = ℕ} 1 records-circuit.ps records-circuit.r records-circuit-promise.Post (λ κs r e. r)
+records-circuit-determined κs a x y s t p q = p ∙ sym q
 
 -- ---- lent buffers: every byte of them. A parameter's list at exit stands at its place among the parameters
 

@@ -1,6 +1,6 @@
 -- `listing::flags` meets its contract: a byte has at most three digits. Assumes nothing.
 use borrow.Author.Needs.{needs}
-use Rattle.catalogue.specs.Record.{flagsIn}
+use Rattle.records.specs.Record.{flagsIn}
 use Rattle.listing.proofs.Writing.{byte-short}
 use Rattle.listing.proofs.flags.Statement.{statement}
 use Rattle.listing.proofs.flags.Tie as tie

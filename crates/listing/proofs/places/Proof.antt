@@ -3,7 +3,7 @@ use mathlib.Core.Path.{_≡_, refl}
 use mathlib.Core.Logic.{⊎-elim}
 use mathlib.Core.List.{[], _∷_}
 use borrow.Author.Needs.{needs}
-use Rattle.catalogue.specs.Refusals.{placesOf}
+use Rattle.records.specs.Refusals.{placesOf}
 use Rattle.listing.proofs.Refusing.{of-length, of-not-listed, of-one, of-repeated, places-none, places-one, places-two}
 use Rattle.listing.proofs.places.Statement.{statement}
 use Rattle.listing.proofs.places.Tie as tie

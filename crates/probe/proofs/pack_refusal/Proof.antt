@@ -1,5 +1,5 @@
 -- `probe::pack_refusal` meets its contract: for each refusal, its number and its places. Assumes nothing.
-use Rattle.catalogue.specs.Refusals.{placesOf}
+use Rattle.records.specs.Refusals.{placesOf}
 use Rattle.probe.specs.Probe.{packed}
 use borrow.Author.Needs.{needs}
 use Rattle.probe.proofs.pack_refusal.Statement.{statement}

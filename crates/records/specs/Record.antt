@@ -1,4 +1,4 @@
--- The layout of a catalogue, of 01, "Layouts": "records of 21 bytes, at most 512, no header". A record's fields, by their places.
+-- The layout of a catalogue's record, of 01, "Layouts": "records of 21 bytes, at most 512, no header". Its fields, by their places, and what is asked of them.
 use Prim.Native.Nat.{ℕ, _+_, _*_, _/_, _%_}
 use mathlib.Core.Bool.{Bool, _&&_, _||_, not}
 use mathlib.Core.List.{List}
@@ -7,10 +7,6 @@ use lib.ListN.{length, getD, take, drop}
 
 abbrev pub recordLength : ℕ
 recordLength = 21
-
--- "at most 512" records
-abbrev pub mostBytes : ℕ
-mostBytes = 10752
 
 -- the bytes of record k, counted from 0
 unfoldable pub recordAt : List ℕ → ℕ → List ℕ
@@ -33,10 +29,6 @@ traceIn r = take 15 (drop 5 r)
 
 unfoldable pub flagsIn : List ℕ → ℕ
 flagsIn r = getD r 20 0
-
--- refusal 9: "catalogue length no multiple of 21, or above 10,752"
-unfoldable pub lengthRefused : ℕ → Bool
-lengthRefused n = not (eqb (n % recordLength) 0) || ltb mostBytes n
 
 -- refusal 11: "circuit number 0 or above 9999"
 unfoldable pub circuitRefused : ℕ → Bool

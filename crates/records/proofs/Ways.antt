@@ -6,10 +6,10 @@ use Prim.Native.Nat.{ℕ, _<_, _≤_}
 use borrow.Author.Tests.{lt-ltb, le-ltb}
 use lib.ListN.{getD}
 use Rattle.settings.specs.Settings.{labelRefused, traceRefused}
-use Rattle.catalogue.specs.Record.{marked, circuitIn, labelIn, traceIn, flagsIn, circuitRefused, flagsRefused}
-use Rattle.catalogue.specs.Catalogue.{due, recordFaults, firstOf}
-use Rattle.catalogue.specs.declared.Refusal.the-variants.{Mark, Circuit, Label, Trace, Flags}
-use Rattle.catalogue.specs.declared.First.the-variants.{Of, Nothing}
+use Rattle.records.specs.Record.{marked, circuitIn, labelIn, traceIn, flagsIn, circuitRefused, flagsRefused}
+use Rattle.records.specs.Faults.{due, recordFaults, firstOf}
+use Rattle.records.specs.declared.Refusal.the-variants.{Mark, Circuit, Label, Trace, Flags}
+use Rattle.records.specs.declared.First.the-variants.{Of, Nothing}
 
 module _ (place : ℕ) (r : List ℕ) (m : Bool) (is-m : m ≡ marked r) where
   pub fault-mark : not m ≡ true → Of (Mark place) ≡ firstOf (recordFaults place r)
