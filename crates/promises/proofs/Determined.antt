@@ -9,6 +9,7 @@ use contract.Lifetimes.{Lfts}
 use denote.Triple.Clauses.{AtExit}
 use denote.Ref.{now}
 use Rattle.text.specs.Text.{Written}
+use Rattle.records.specs.declared.First.{First}
 use Rattle.catalogue.specs.declared.Checked.{Checked}
 use Rattle.catalogue.specs.declared.Looked.{Looked}
 use Rattle.parity.proofs.parity.Kinds as parity
@@ -69,6 +70,8 @@ use Rattle.copier.proofs.copy_at.Kinds as copier-copy-at
 use Rattle.copier.proofs.copy_at.Reads as copier-copy-at-promise
 use Rattle.records.proofs.record_at.Kinds as records-record-at
 use Rattle.records.proofs.record_at.Reads as records-record-at-promise
+use Rattle.records.proofs.fault.Kinds as records-fault
+use Rattle.records.proofs.fault.Reads as records-fault-promise
 use Rattle.records.proofs.circuit.Kinds as records-circuit
 use Rattle.records.proofs.circuit.Reads as records-circuit-promise
 use Rattle.records.proofs.trace.Kinds as records-trace
@@ -183,6 +186,9 @@ records-record-at-determined κs a x y s t p q = p .0 ∙ sym (q .0)
 
 pub records-trace-determined : Determines {O = List ℕ} 1 records-trace.ps records-trace.r records-trace-promise.Post (λ κs r e. now r)
 records-trace-determined κs a x y s t p q = p .0 ∙ sym (q .0)
+
+pub records-fault-determined : Determines {O = First} 1 records-fault.ps records-fault.r records-fault-promise.Post (λ κs r e. r)
+records-fault-determined κs a x y s t p q = p ∙ sym q
 
 pub records-circuit-determined : Determines {O = ℕ} 1 records-circuit.ps records-circuit.r records-circuit-promise.Post (λ κs r e. r)
 records-circuit-determined κs a x y s t p q = p ∙ sym q
