@@ -8,10 +8,12 @@ their output compared byte for byte. A file named refused-NN.. must be refused
 with NN, one named good-.. must be listed; every refusal of a catalogue must be
 among them. Longer files, up to and past the longest catalogue, are made here.
 """
+import os
 import pathlib
 import re
 import subprocess
 import sys
+import time
 
 LONGEST = 512 * 21
 
@@ -40,6 +42,36 @@ def run(command, data):
     return done.stdout
 
 
+def streams(listing):
+    """Input in pieces is one file; help, and what cannot be read or written, is said on standard error, and nothing is listed."""
+    failed = 0
+    slow = subprocess.Popen(listing, stdin=subprocess.PIPE, stdout=subprocess.PIPE)
+    for piece in (record(1)[:7], record(1)[7:] + record(2)[:1], record(2)[1:]):
+        slow.stdin.write(piece)
+        slow.stdin.flush()
+        time.sleep(0.05)
+    text = slow.communicate(timeout=60)[0]
+    if text != run(listing, record(1) + record(2)):
+        failed += 1
+        print(f"listing: a file that comes in pieces is listed as {text!r}")
+    folder = os.open("/", os.O_RDONLY)
+    unread = subprocess.run(listing, stdin=folder, capture_output=True, timeout=60)
+    os.close(folder)
+    if unread.stdout or unread.stderr != b"list: standard input cannot be read\n":
+        failed += 1
+        print(f"listing: of what cannot be read it says {unread.stdout!r}, {unread.stderr!r}")
+    asked = subprocess.run(listing + ["--help"], stdin=subprocess.DEVNULL, capture_output=True, timeout=60)
+    if asked.stdout or not asked.stderr.startswith(b"usage: list < CATALOGUE\n"):
+        failed += 1
+        print(f"listing: asked for help it says {asked.stdout!r}, {asked.stderr!r}")
+    with open("/dev/full", "wb") as full:
+        unwritten = subprocess.run(listing, input=record(1), stdout=full, stderr=subprocess.PIPE, timeout=60)
+    if unwritten.stderr != b"list: standard output cannot be written\n":
+        failed += 1
+        print(f"listing: where nothing can be written it says {unwritten.stderr!r}")
+    return failed
+
+
 def main():
     if len(sys.argv) != 3:
         sys.exit(__doc__)
@@ -66,6 +98,7 @@ def main():
         if ours != theirs or not right:
             failed += 1
             print(f"listing: {name} differs:\n  program {ours[:400]!r}\n  second  {theirs[:400]!r}\n  input   {data[:200].hex()}")
+    failed += streams(listing)
     missing = {0, 4, 5, 9, 10, 11, 12, 13} - met
     if missing:
         failed += 1
