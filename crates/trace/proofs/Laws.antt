@@ -1,6 +1,6 @@
 -- One turn of each loop, and each way out. Assumes nothing.
-use mathlib.Core.Path.{_≡_, refl, ap}
-use mathlib.Core.Bool.{Bool, true, false}
+use mathlib.Core.Path.{_≡_, refl, sym, ap, _∙_}
+use mathlib.Core.Bool.{Bool, true, false, _&&_}
 use mathlib.Core.List.{List, [], _∷_}
 use Prim.Native.Nat.{ℕ, zero, suc, _+_, _-_, _*_, _/_, _%_, _<_, _≤_}
 use native.Mathlib.Numerals.{add-one, sub-one}
@@ -9,8 +9,8 @@ use borrow.Author.Tests.{eq-eqb, ne-eqb, lt-ltb, le-ltb, ltb-true}
 use lib.ListN.{length, take, drop, getD, drop-of-length-le}
 use lib.Seq.{drop-cons, take-all}
 use lib.Bits.{xor-lt}
-use lib.Dec.{ltb, lit<}
-use Rattle.laws.proofs.Tests.{by-test}
+use lib.Dec.{eqb, ltb, lit<}
+use Rattle.laws.proofs.Tests.{by-test, and-assoc, and-true}
 use Rattle.trace.specs.Check.{topBitsClear, goodMessage, traceCheck, alike}
 use Rattle.trace.specs.Register.{shifted, bitsIn, bytesIn}
 
@@ -61,18 +61,20 @@ module _ (s : List ℕ) (i : ℕ) (p : Bool) where
 
 -- ---- two traces
 
-module _ (x y : List ℕ) (i : ℕ) (p : Bool) where
-  pub alike-turn : i < length x → i < length y → getD x i 0 ≡ getD y i 0 → alike (drop i x) (drop i y) ≡ p → alike (drop (i + 1) x) (drop (i + 1) y) ≡ p
+-- `all` is whether the bytes before i are the same; what it says with the rest is p
+module _ (x y : List ℕ) (i : ℕ) (all p : Bool) (l : length x ≡ length y) where
+  pub alike-turn : i < length x → (all && alike (drop i x) (drop i y)) ≡ p → ((all && eqb (getD x i 0) (getD y i 0)) && alike (drop (i + 1) x) (drop (i + 1) y)) ≡ p
   unfolding alike
-  alike-turn h k q e = rw add-one (rw (drop-cons x i 0 h, drop-cons y i 0 k, eq-eqb (getD x i 0) (getD y i 0) q) at e)
+  alike-turn h e =
+      rw add-one
+      (and-assoc all (eqb (getD x i 0) (getD y i 0)) (alike (drop (suc i) x) (drop (suc i) y))
+      ∙ (rw (drop-cons x i 0 h, drop-cons y i 0 (omega arith)) at e))
 
-  pub alike-differ : i < length x → i < length y → (getD x i 0 ≡ getD y i 0 → ⊥) → alike (drop i x) (drop i y) ≡ p → false ≡ p
+  pub alike-end : length x ≤ i → (all && alike (drop i x) (drop i y)) ≡ p → all ≡ p
   unfolding alike
-  alike-differ h k q e = rw (drop-cons x i 0 h, drop-cons y i 0 k, ne-eqb (getD x i 0) (getD y i 0) q) at e
-
-  pub alike-end : length x ≤ i → length y ≤ i → alike (drop i x) (drop i y) ≡ p → true ≡ p
-  unfolding alike
-  alike-end h k e = rw (drop-of-length-le x h, drop-of-length-le y k) at e
+  alike-end h e =
+      let k : length y ≤ i = omega arith in
+      sym (and-true all) ∙ (rw (drop-of-length-le x h, drop-of-length-le y k) at e)
 
 -- ---- the host's trace check
 
