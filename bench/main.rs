@@ -19,7 +19,7 @@ extern "C" {
 }
 
 const CONTAINER: usize = 2349;
-const TURNS: usize = 60;
+const TURNS: usize = 600;
 
 #[inline(never)]
 fn plain_parity(b: &[u8]) -> u8 {
@@ -83,9 +83,8 @@ fn catalogue(n: usize) -> Vec<u8> {
 
 fn main() {
     let from: Vec<u8> = (0..CONTAINER).map(|i| (i * 31 + 7) as u8).collect();
-    let mut to = vec![0u8; CONTAINER];
-    let mut to2 = vec![0u8; CONTAINER];
-    let mut to3 = vec![0u8; CONTAINER];
+    // one buffer for all rows, so that none has a better place in memory than another
+    let to = std::cell::RefCell::new(vec![0u8; CONTAINER]);
 
     show(
         "parity of 2349 bytes",
@@ -104,10 +103,10 @@ fn main() {
         2000,
         &mut [
             ("proved", &mut || {
-                black_box(unsafe { probe_copy(black_box(from.as_ptr()), CONTAINER, to.as_mut_ptr(), CONTAINER) });
+                black_box(unsafe { probe_copy(black_box(from.as_ptr()), CONTAINER, to.borrow_mut().as_mut_ptr(), CONTAINER) });
             }),
-            ("memcpy", &mut || memcpy(black_box(&from), black_box(&mut to2))),
-            ("Rust, a plain loop", &mut || plain_copy(black_box(&from), black_box(&mut to3))),
+            ("memcpy", &mut || memcpy(black_box(&from), black_box(&mut to.borrow_mut()))),
+            ("Rust, a plain loop", &mut || plain_copy(black_box(&from), black_box(&mut to.borrow_mut()))),
         ],
     );
     let mut message = vec![second::start_byte(b"03E5           ")];
