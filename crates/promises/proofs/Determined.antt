@@ -86,6 +86,22 @@ use Rattle.text.proofs.hex.Kinds as text-hex
 use Rattle.text.proofs.hex.Reads as text-hex-promise
 use Rattle.listing.proofs.list.Kinds as listing-list
 use Rattle.listing.proofs.list.Reads as listing-list-promise
+use Rattle.probe.proofs.probe_copy.Kinds as probe-copy
+use Rattle.probe.proofs.probe_copy.Reads as probe-copy-promise
+use Rattle.probe.proofs.probe_start_byte.Kinds as probe-start-byte
+use Rattle.probe.proofs.probe_start_byte.Reads as probe-start-byte-promise
+use Rattle.probe.proofs.probe_plain_word.Kinds as probe-plain-word
+use Rattle.probe.proofs.probe_plain_word.Reads as probe-plain-word-promise
+use Rattle.probe.proofs.probe_adjusting_word.Kinds as probe-adjusting-word
+use Rattle.probe.proofs.probe_adjusting_word.Reads as probe-adjusting-word-promise
+use Rattle.probe.proofs.probe_inverted.Kinds as probe-inverted
+use Rattle.probe.proofs.probe_inverted.Reads as probe-inverted-promise
+use Rattle.probe.proofs.probe_check.Kinds as probe-check
+use Rattle.probe.proofs.probe_check.Reads as probe-check-promise
+use Rattle.probe.proofs.probe_lookup.Kinds as probe-lookup
+use Rattle.probe.proofs.probe_lookup.Reads as probe-lookup-promise
+use Rattle.probe.proofs.probe_list.Kinds as probe-list
+use Rattle.probe.proofs.probe_list.Reads as probe-list-promise
 
 -- whatever f reads off the result and off the parameters at exit; n is the number of references among the parameters
 abbrev pub Determines : {O : Type 0} (n : ℕ) (ps : List (PK n)) (r : RK n) → Out n ps r → ((κs : Lfts n) → resT r κs .Denot → AtExit (endedOf n ps r) κs → O) → Type 0
@@ -230,3 +246,32 @@ text-hex-determined κs a x y s t p q = written-same p q
 
 pub listing-list-determined : Determines {O = Left} 2 listing-list.ps listing-list.r listing-list-promise.Post (λ κs r e. record { answer = r; buffer = now (e .1 .0) })
 listing-list-determined κs a x y s t p q = left-same (p .length-is ∙ sym (q .length-is)) (p .now-is ∙ sym (q .now-is))
+
+-- ---- probe
+
+pub probe-start-byte-determined : Determines {O = ℕ} 1 probe-start-byte.ps probe-start-byte.r probe-start-byte-promise.Post (λ κs r e. r)
+probe-start-byte-determined κs a x y s t p q = p ∙ sym q
+
+pub probe-plain-word-determined : Determines {O = ℕ} 0 probe-plain-word.ps probe-plain-word.r probe-plain-word-promise.Post (λ κs r e. r)
+probe-plain-word-determined κs a x y s t p q = p ∙ sym q
+
+pub probe-adjusting-word-determined : Determines {O = ℕ} 0 probe-adjusting-word.ps probe-adjusting-word.r probe-adjusting-word-promise.Post (λ κs r e. r)
+probe-adjusting-word-determined κs a x y s t p q = p ∙ sym q
+
+pub probe-inverted-determined : Determines {O = ℕ} 0 probe-inverted.ps probe-inverted.r probe-inverted-promise.Post (λ κs r e. r)
+probe-inverted-determined κs a x y s t p q = p ∙ sym q
+
+pub probe-check-determined : Determines {O = ℕ} 1 probe-check.ps probe-check.r probe-check-promise.Post (λ κs r e. r)
+probe-check-determined κs a x y s t p q = p ∙ sym q
+
+pub probe-copy-answer-determined : Determines {O = Bool} 2 probe-copy.ps probe-copy.r probe-copy-promise.Post (λ κs r e. r)
+probe-copy-answer-determined κs a x y s t p q = p .0 ∙ sym (q .0)
+
+pub probe-copy-buffer-determined : Determines {O = List ℕ} 2 probe-copy.ps probe-copy.r probe-copy-promise.Post (λ κs r e. now (e .1 .0))
+probe-copy-buffer-determined κs a x y s t p q = p .1 ∙ sym (q .1)
+
+pub probe-lookup-determined : Determines {O = Left} 2 probe-lookup.ps probe-lookup.r probe-lookup-promise.Post (λ κs r e. record { answer = r; buffer = now (e .1 .1 .0) })
+probe-lookup-determined κs a x y s t p q = left-same (p .0 ∙ sym (q .0)) (p .1 ∙ sym (q .1))
+
+pub probe-list-determined : Determines {O = Left} 2 probe-list.ps probe-list.r probe-list-promise.Post (λ κs r e. record { answer = r; buffer = now (e .1 .0) })
+probe-list-determined κs a x y s t p q = left-same (p .length-is ∙ sym (q .length-is)) (p .now-is ∙ sym (q .now-is))
