@@ -1,0 +1,57 @@
+-- The container source: one call, as a function of all that it is given. 01, "Layouts" and "Refusal numbers".
+use mathlib.Core.Path.{_≡_}
+use Prim.Native.Nat.{ℕ, _+_, _%_}
+use mathlib.Core.Bool.{not}
+use mathlib.Core.List.{List, _++_}
+use lib.Dec.{eqb, ltb}
+use lib.ListN.{length}
+use Rattle.parity.specs.Parity.{parityOf}
+use Rattle.settings.specs.Settings.{labelRefused, traceRefused}
+use Rattle.refusals.specs.Refusals.{due, outcome}
+use Rattle.refusals.specs.declared.Refusal.{Refusal}
+use Rattle.refusals.specs.declared.Refusal.the-variants as wrong
+use Rattle.refusals.specs.declared.Answer.the-variants.{Done, Refused}
+use Rattle.shape.specs.declared.Shape.{Shape}
+use Rattle.container.specs.Container.{payloadSize, containerOf}
+use Rattle.path_source.specs.Overhead.{overheadOf}
+use Rattle.path_source.specs.declared.State.{State}
+use Rattle.path_source.specs.declared.Given.{Given}
+use Rattle.path_source.specs.declared.Sent.{Sent}
+
+-- "a fresh container source begins at the start byte"; B3 is "00 in a source's first"
+abbrev pub freshState : State
+freshState = record { place = 0; parity = 0 }
+
+-- all that is wrong with a call: "Container source: 8, 4, 5, 2, 3, 6". Of payload and container the lengths count.
+unfoldable pub sendFaults : Shape → ℕ → ℕ → List ℕ → ℕ → ℕ → ℕ → List Refusal
+sendFaults s place label trace payload container violations =
+    due (ltb 15 place) wrong.State
+    ++ (due (labelRefused label) wrong.Label
+    ++ (due (traceRefused trace) wrong.Trace
+    ++ (due (not (eqb payload (payloadSize (s .columns)))) wrong.Payload
+    ++ (due (not (eqb container (s .size))) wrong.Container
+    ++ due (ltb 8 violations) wrong.Violations))))
+
+-- the container that is sent
+unfoldable pub containerSent : Shape → State → Given → List ℕ → List ℕ → List ℕ
+containerSent s state g trace payload = containerOf (s .columns) (overheadOf state g trace) payload
+
+-- the state after it: the next place in the message, and the parity of all its bytes, its own B3 among them
+unfoldable pub stateAfter : Shape → State → Given → List ℕ → List ℕ → State
+stateAfter s state g trace payload = record { place = (state .place + 1) % 16; parity = parityOf (containerSent s state g trace payload) }
+
+-- all that a call leaves: the answer with the state, and the container's bytes
+pub record Outcome : Type 0 where
+  pub sent : Sent
+  pub container : List ℕ
+
+-- THE CONTAINER SOURCE. "A refusal returns its number and the old state. Nothing lent is written."
+unfoldable pub containerSource : Shape → State → Given → List ℕ → List ℕ → List ℕ → Outcome
+containerSource s state g trace payload before =
+    outcome (sendFaults s (state .place) (g .label) trace (length payload) (length before) (g .violations))
+    (record { sent = record { answer = Done; state = stateAfter s state g trace payload }; container = containerSent s state g trace payload })
+    (λ x. record { sent = record { answer = Refused x; state = state }; container = before })
+
+-- the promise: what is answered, and the container as it was and as it is left
+abbrev pub Sends : Shape → State → Given → List ℕ → List ℕ → List ℕ → Sent → List ℕ → Type 0
+Sends s state g trace payload before r after = _≡_ {A = Outcome} (record { sent = r; container = after }) (containerSource s state g trace payload before)
