@@ -1,21 +1,17 @@
+-- `shape::down` meets its contract: each way by its test. Assumes nothing.
 use Rattle.laws.proofs.Tests.{tests}
 use Rattle.shape.specs.Shape.{downOf}
 use borrow.Author.Needs.{needs}
 use Rattle.shape.proofs.down.Statement.{statement}
 use Rattle.shape.proofs.down.Tie as tie
-use Rattle.shape.proofs.down.Reads as reads
-use Rattle.shape.proofs.down.Lts as lts
 
--- src/lib.rt:66:35
 sub-result : tie.Need-sub-result
 sub-result c = search needs
 
--- src/lib.rt:63:1
 returns : tie.Need-returns
 unfolding downOf
 returns c = search tests
 
--- src/lib.rt:63:1
 returns-2 : tie.Need-returns-2
 unfolding downOf
 returns-2 c = search tests

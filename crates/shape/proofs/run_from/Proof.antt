@@ -1,45 +1,35 @@
+-- `shape::run_from` meets its contract: a place for each case. Assumes nothing.
 use Rattle.shape.specs.Shape.{runFrom}
 use borrow.Author.Needs.{needs}
 use Rattle.shape.proofs.run_from.Statement.{statement}
 use Rattle.shape.proofs.run_from.Tie as tie
-use Rattle.shape.proofs.run_from.Reads as reads
-use Rattle.shape.proofs.run_from.Lts as lts
 
--- src/lib.rt:87:32
 enum-told : tie.Need-enum-told
 enum-told c = search needs
 
--- src/lib.rt:87:32
 mul-result : tie.Need-mul-result
 mul-result c = search needs
 
--- src/lib.rt:88:34
 enum-told-2 : tie.Need-enum-told-2
 enum-told-2 c = search needs
 
--- src/lib.rt:88:34
 mul-result-2 : tie.Need-mul-result-2
 mul-result-2 c = search needs
 
--- src/lib.rt:89:34
 enum-told-3 : tie.Need-enum-told-3
 enum-told-3 c = search needs
 
--- src/lib.rt:89:34
 mul-result-3 : tie.Need-mul-result-3
 mul-result-3 c = search needs
 
--- src/lib.rt:82:1
 returns : tie.Need-returns
 unfolding runFrom
 returns c = simp (c .before .enum-told .given .1)
 
--- src/lib.rt:82:1
 returns-2 : tie.Need-returns-2
 unfolding runFrom
 returns-2 c = simp (c .before .enum-told2 .given .1)
 
--- src/lib.rt:82:1
 returns-3 : tie.Need-returns-3
 unfolding runFrom
 returns-3 c = simp (c .before .enum-told3 .given .1)

@@ -1,0 +1,92 @@
+-- What each test of a call decides, what a call that is done has shown, and the two ends of `make`. Assumes nothing.
+use mathlib.Core.Path.{_≡_, refl, sym, _∙_}
+use mathlib.Core.Bool.{Bool, true, false, _&&_, _||_, not, true≢false}
+use mathlib.Core.List.{List}
+use Prim.Native.Nat.{ℕ, _≤_}
+use lib.Dec.{eqb, ltb}
+use lib.ListN.{length}
+use borrow.Author.Tests.{ltb-false, eqb-true, eq-eqb, ne-eqb, not-false}
+use Rattle.refusals.specs.Refusals.{due, answerOf}
+use Rattle.refusals.proofs.Wrong.{due-none, none-wrong, outcome-done, outcome-refused}
+use Rattle.refusals.specs.declared.Refusal.{Refusal}
+use Rattle.refusals.specs.declared.Refusal.the-variants as wrong
+use Rattle.refusals.specs.declared.Answer.{Answer}
+use Rattle.refusals.specs.declared.Answer.the-variants.{Done, Refused}
+use Rattle.shape.specs.Shape.{unitLength, offsetAfter, endedBy}
+use Rattle.shape.specs.declared.Shape.{Shape}
+use Rattle.shape.specs.declared.Adjustment.{Adjustment}
+use Rattle.unit_source.specs.Source.{Ready, adjusts, outOfRange, makeFaults, unitSent, waitAfter, stateAfter, unitSource, Makes}
+use Rattle.unit_source.specs.declared.State.{State}
+use Rattle.unit_source.specs.declared.Made.{Made}
+
+-- ---- the order of the tests
+
+module _ (s : Shape) (state : State) (a : Adjustment) (current next unit : ℕ) (out : Bool) (out-is : out ≡ outOfRange (s .top) state) where
+  pub wrong-state : out ≡ true → Refused wrong.State ≡ answerOf (makeFaults s state a current next unit)
+  unfolding makeFaults due answerOf
+  wrong-state h = rw (← out-is, h) refl
+
+  module _ (in-range : out ≡ false) where
+    pub wrong-container : (not (eqb current (s .size)) || not (eqb next (s .size))) ≡ true → Refused wrong.Container ≡ answerOf (makeFaults s state a current next unit)
+    unfolding makeFaults due answerOf
+    wrong-container h = rw (← out-is, in-range, h) refl
+
+    module _ (both : (not (eqb current (s .size)) || not (eqb next (s .size))) ≡ false) where
+      pub wrong-unit : (unit ≡ unitLength s → ⊥) → Refused wrong.Unit ≡ answerOf (makeFaults s state a current next unit)
+      unfolding makeFaults due answerOf
+      wrong-unit h = rw (← out-is, in-range, both, ne-eqb unit (unitLength s) h) refl
+
+      module _ (unit-is : unit ≡ unitLength s) (asked : Bool) (asked-is : asked ≡ adjusts a) where
+        pub wrong-adjustment : (asked && ltb (state .wait) 3) ≡ true → Refused wrong.Adjustment ≡ answerOf (makeFaults s state a current next unit)
+        unfolding makeFaults due answerOf
+        wrong-adjustment h = rw (← out-is, in-range, both, eq-eqb unit (unitLength s) unit-is, ← asked-is, h) refl
+
+        pub nothing-wrong : (asked && ltb (state .wait) 3) ≡ false → Done ≡ answerOf (makeFaults s state a current next unit)
+        unfolding makeFaults due answerOf
+        nothing-wrong h = rw (← out-is, in-range, both, eq-eqb unit (unitLength s) unit-is, ← asked-is, h) refl
+
+-- ---- what a call that is done has shown
+
+or-false : (a b : Bool) → (a || b) ≡ false → (a ≡ false) × (b ≡ false)
+or-false false b e = (refl, e)
+or-false true b e = absurd (true≢false e)
+
+pub ready : (s : Shape) (state : State) (a : Adjustment) (current next unit : ℕ) → answerOf (makeFaults s state a current next unit) ≡ Done → Ready s (state .offset) current next unit
+unfolding makeFaults outOfRange
+ready s state a current next unit e =
+    let w = none-wrong (makeFaults s state a current next unit) e in
+    let p = due-none (outOfRange (s .top) state) wrong.State _ w in
+    let q = due-none (not (eqb current (s .size)) || not (eqb next (s .size))) wrong.Container _ (p .1) in
+    let r = due-none (not (eqb unit (unitLength s))) wrong.Unit _ (q .1) in
+    let range = or-false (ltb (s .top) (state .offset)) (ltb 3 (state .wait)) (p .0) in
+    let both = or-false (not (eqb current (s .size))) (not (eqb next (s .size))) (q .0) in
+    record {
+      offset-low = ltb-false (s .top) (state .offset) (range .0);
+      current-is = eqb-true current (s .size) (not-false (eqb current (s .size)) (both .0));
+      next-is = eqb-true next (s .size) (not-false (eqb next (s .size)) (both .1));
+      unit-is = eqb-true unit (unitLength s) (not-false (eqb unit (unitLength s)) (r .0));
+    }
+
+-- ---- what `make` has to show: where it writes, and at its two ends
+
+module _ (s : Shape) (state : State) (a : Adjustment) (current next before : List ℕ) (r : Answer) (r-is : r ≡ answerOf (makeFaults s state a (length current) (length next) (length before))) where
+  pub made-ready : r ≡ Done → Ready s (state .offset) (length current) (length next) (length before)
+  made-ready h = ready s state a (length current) (length next) (length before) (sym r-is ∙ h)
+
+  pub made-low : r ≡ Done → state .offset ≤ s .top
+  made-low h = made-ready h .offset-low
+
+  pub made-refused : (x : Refusal) → r ≡ Refused x → Makes s state a current next before (record { answer = Refused x; ended = 0; state = state }) before
+  unfolding unitSource
+  made-refused x h = sym (outcome-refused (makeFaults s state a (length current) (length next) (length before)) _ _ x (sym r-is ∙ h))
+
+  pub made-done : (ended offset wait : ℕ) (after : List ℕ) → r ≡ Done → ended ≡ endedBy a (state .offset) → offset ≡ offsetAfter (s .top) a (state .offset) → wait ≡ waitAfter a (state .wait)
+      → after ≡ unitSent s a (state .offset) current next
+      → Makes s state a current next before (record { answer = Done; ended = ended; state = record { offset = offset; wait = wait } }) after
+  unfolding unitSource stateAfter
+  made-done ended offset wait after h e o w u =
+      rw (e, o, w, u) (sym (outcome-done (makeFaults s state a (length current) (length next) (length before)) _ _ (sym r-is ∙ h)))
+
+-- the entry point fixes the shape
+pub makes-at : (s t : Shape) (state : State) (a : Adjustment) (current next before after : List ℕ) (m : Made) → s ≡ t → Makes s state a current next before m after → Makes t state a current next before m after
+makes-at s t state a current next before after m e h = rw (← e) h
