@@ -44,9 +44,9 @@ unfolding heldCount
 held-some s v = simp (ne-eqb (suc v) 0 (λ e. omega arith))
 
 -- at least a step of the container is still to come
-pub held-low : (s : Shape) (v : ℕ) → Fit s → v ≤ s .top → heldCount s v + s .step ≤ s .size
-held-low s zero f h = omega (arith, held-none s, f .two)
-held-low s (suc v) f h = omega (arith, held-some s v, mul-suc (s .step) v, place-low s (suc v) f h)
+pub held-low : (s : Shape) (v : ℕ) → Fit s → heldCount s v + s .step ≤ s .size
+held-low s zero f = omega (arith, held-none s, f .two)
+held-low s (suc v) f = omega (arith, held-some s v, mul-suc (s .step) v, f .two)
 
 -- ---- adjustments
 

@@ -25,7 +25,7 @@ module _ (s : Shape) (a : Adjustment) (v : ℕ) (c n d : List ℕ) (f : Fit s) (
     pub write-pour : Pour c n sent from w
     write-pour =
         let b = run-begins (s .step) a in
-        let k = held-low s v f (ready .offset-low) in
+        let k = held-low s v f in
         let l : length w ≡ length d = head-long (headOf (s .step) word from) d w from w-is long (write-head .within) in
         record {
           within = omega (arith, write-head .within);

@@ -1,0 +1,65 @@
+-- A unit source called again and again: it is given its containers in order, the next ones after as many as it says ended, and the buffer of one unit is lent again for the next.
+use Prim.Native.Nat.{ℕ, zero, suc, _+_, _*_, _≤_}
+use mathlib.Core.List.{List, [], _∷_, _++_}
+use lib.ListN.{length, take, drop}
+use Rattle.refusals.specs.declared.Answer.{Answer}
+use Rattle.refusals.specs.declared.Answer.the-variants.{Done, Refused}
+use Rattle.shape.specs.Shape.{heldCount, runFrom}
+use Rattle.shape.specs.declared.Shape.{Shape}
+use Rattle.shape.specs.declared.Adjustment.{Adjustment}
+use Rattle.unit_source.specs.Source.{Outcome, unitSource}
+use Rattle.unit_source.specs.declared.State.{State}
+
+-- a source between two calls: its state, the number of its current container, and what stands in the lent unit
+pub record Sending : Type 0 where
+  pub state : State
+  pub number : ℕ
+  pub unit : List ℕ
+
+module _ (s : Shape) (box : ℕ → List ℕ) where
+  -- ---- one call
+
+  -- with the current container and the next
+  abbrev pub called : Sending → Adjustment → Outcome
+  called x a = unitSource s (x .state) a (box (x .number)) (box (x .number + 1)) (x .unit)
+
+  -- as many containers further as it says ended
+  unfoldable pub after : Sending → Adjustment → Sending
+  after x a = record { state = called x a .made .state; number = x .number + called x a .made .ended; unit = called x a .unit }
+
+  -- a unit's share: the container bytes in it, from where its run begins to its end
+  unfoldable pub shareIn : Adjustment → Answer → List ℕ → List ℕ
+  shareIn a Done unit = drop (runFrom (s .step) a) unit
+  shareIn a (Refused x) unit = []
+
+  abbrev pub share : Sending → Adjustment → List ℕ
+  share x a = shareIn a (called x a .made .answer) (called x a .unit)
+
+  -- what was sent before of the current container
+  abbrev pub underWay : Sending → List ℕ
+  underWay x = take (heldCount s (x .state .offset)) (box (x .number))
+
+  -- ---- a row of calls
+
+  unfoldable pub atEnd : Sending → List Adjustment → Sending
+  atEnd x [] = x
+  atEnd x (a ∷ row) = atEnd (after x a) row
+
+  -- the shares, joined
+  unfoldable pub shares : Sending → List Adjustment → List ℕ
+  shares x [] = []
+  shares x (a ∷ row) = share x a ++ shares (after x a) row
+
+  -- how many containers the calls said ended
+  unfoldable pub ended : Sending → List Adjustment → ℕ
+  ended x [] = 0
+  ended x (a ∷ row) = called x a .made .ended + ended (after x a) row
+
+-- n containers from number i on, joined
+unfoldable pub joined : (ℕ → List ℕ) → ℕ → ℕ → List ℕ
+joined box i zero = []
+joined box i (suc n) = box i ++ joined box (i + 1) n
+
+-- among the bytes that were sent is the last byte of the container that comes i after the current one
+abbrev pub LastSent : Shape → List ℕ → ℕ → Type 0
+LastSent s sent i = suc i * s .size ≤ length sent
