@@ -10,7 +10,10 @@ with what the rules say of that unit, worked out here from the starting offset
 and from what FRAMES asked for, and so is what FRAMES itself says of the unit.
 
 The dissector reads each word as it stands and knows no adjustments: in an
-adjustment unit H1 and H2 are compared, value and J1 are not.
+adjustment unit H1 and H2 are compared, value and J1 are not. For values from
+522 up it looks for J1 in rows 1 to 3 of the same frame, which hold the unit
+before: there it finds the J1 that stands in the unit before, be that one an
+adjustment unit or not.
 """
 import os
 import struct
@@ -25,12 +28,16 @@ RUNS = [
     (1, 2, b"03E5 KLMNOPQRST"),
     (400, 3, b"03E5           "),
     (521, 4, b"03E5 KLMNOPQRST"),
+    (522, 5, b"03E5           "),
+    (782, 6, b"03E5 KLMNOPQRST"),
 ]
 # Steps of the offset that must be among those of all runs.
-STEPS = {(0, 1), (1, 0), (400, 401), (401, 400), (521, 520), (520, 521)}
+STEPS = {(0, 1), (1, 0), (400, 401), (401, 400), (521, 520), (520, 521), (521, 522), (522, 521), (782, 0), (0, 782)}
 SHOWN = 8
 
 CONTAINER, VALUES = 2349, 783
+# From this value on the dissector looks for J1 in the unit before.
+IN_THE_ONE_BEFORE = 522
 # A unit's first place that carries container bytes, and the bits of the word that are inverted.
 ASKED = {"plain": (9, 0), "increment": (12, 0b1010101010), "decrement": (6, 0b0101010101)}
 STEP = {"plain": 0, "increment": 1, "decrement": -1}
@@ -155,11 +162,11 @@ def read_text(fields):
 
 
 def compare(program, offset, seed, trace):
-    """One run: how many units, plain units and differences, and the steps of the offset."""
+    """One run: how many units, values, J1 and differences, and the steps of the offset."""
     written, made = units(program, offset, seed, trace)
     found = wireshark(list(stm1([data for _, _, data in written])))
     j1 = message(trace)
-    differences, plain, steps, total = [], 0, set(), 0
+    differences, values, read, steps, total, places_before = [], 0, 0, set(), 0, None
     expected = rules(offset, [asked for asked, _, _ in written])
     for k, ((asked, said, _), (before, (after, word, ended), places), seen) in enumerate(zip(written, expected, found)):
         total += ended
@@ -168,17 +175,22 @@ def compare(program, offset, seed, trace):
         wanted = (word >> 8, word & 0xFF)
         if asked == "plain":
             # J1 stands at offset 3 times the value, that of container n being byte n of the message.
-            plain += 1
-            wanted += (after, j1[places[9 + 3 * after] % 16])
+            values += 1
+            wanted += (after,)
+            looked_in = places if after < IN_THE_ONE_BEFORE else places_before
+            if looked_in is not None:
+                read += 1
+                wanted += (j1[looked_in[9 + 3 * after] % 16],)
         else:
             steps.add((before, after))
         if seen[: len(wanted)] != wanted:
             differences.append(f"unit {k}, {asked}: tshark: {read_text(seen)}; rules: {read_text(wanted)}")
+        places_before = places
     if made != total + 2:
         differences.append(f"{made} containers were made, the rules say {total + 2}")
     for line in differences[:SHOWN]:
         print(f"frames: offset {offset}, seed {seed}: {line}")
-    return len(written), plain, len(differences), steps
+    return (len(written), values, read, len(differences)), steps
 
 
 def main():
@@ -186,18 +198,15 @@ def main():
         sys.exit(__doc__)
     if message(b"03E5           ")[0] != 0x8B:
         stop("the start byte is worked out wrongly here")
-    units_read = plain_read = failed = 0
-    steps = set()
+    totals, steps = (0, 0, 0, 0), set()
     for offset, seed, trace in RUNS:
-        count, plain, differ, met = compare(sys.argv[1], offset, seed, trace)
-        units_read, plain_read, failed, steps = units_read + count, plain_read + plain, failed + differ, steps | met
+        counts, met = compare(sys.argv[1], offset, seed, trace)
+        totals, steps = tuple(map(sum, zip(totals, counts))), steps | met
+    units_read, values, read, failed = totals
     if STEPS - steps:
         failed += 1
         print(f"frames: no adjustment from, to: {sorted(STEPS - steps)}")
-    print(
-        f"frames: tshark read {units_read} units, {plain_read} with value and J1, "
-        f"{units_read - plain_read} adjustments with H1 and H2; {failed} differ"
-    )
+    print(f"frames: tshark read H1 and H2 of {units_read} units, {values} values and {read} J1; {failed} differ")
     sys.exit(1 if failed else 0)
 
 

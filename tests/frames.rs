@@ -4,12 +4,15 @@
 //! One line for each unit on standard output: what was asked, the offset after
 //! it, its word, how many containers ended in it, and its bytes. The last line
 //! says how many containers were made. A refusal is an error.
+//!
+//! A source that starts at 521 or below stays there. One that starts above may
+//! go anywhere, from 782 up to 0 and from 0 down to 782 too.
 
 use std::env;
 use std::io::{self, BufWriter, Write};
 use std::process::ExitCode;
 
-const USAGE: &str = "usage: frames OFFSET COUNT SEED [TRACE]  (OFFSET 0 to 521, TRACE 15 characters)";
+const USAGE: &str = "usage: frames OFFSET COUNT SEED [TRACE]  (OFFSET 0 to 782, TRACE 15 characters)";
 
 extern "C" {
     // The answer: refusal number * 65536 + place * 256 + parity; number 0 where nothing is refused.
@@ -51,8 +54,9 @@ const UNIT_LENGTH: usize = 2358;
 
 /// The trace of every container where none is given.
 const TRACE: [u8; 15] = *b"03E5           ";
-/// From 522 up Wireshark looks for J1 in another unit; the offset stays below.
-const HIGHEST_OFFSET: u16 = 521;
+/// The highest offset with which Wireshark looks for J1 in the unit itself.
+const HIGHEST_IN_ITSELF: u16 = 521;
+const HIGHEST_OFFSET: u16 = 782;
 /// So many units after an adjustment the next may be asked for.
 const FREE: u8 = 3;
 
@@ -142,14 +146,14 @@ const INCREMENT: (u8, &str) = (1, "increment");
 const DECREMENT: (u8, &str) = (2, "decrement");
 
 /// What to ask for: an adjustment in about one of four units that are free for
-/// it, and none that would leave the offsets that can be read.
-fn choose(offset: u16, wait: u8, numbers: &mut Numbers) -> (u8, &'static str) {
+/// it. Unless it may go anywhere, none leaves the offsets 0 to 521.
+fn choose(anywhere: bool, offset: u16, wait: u8, numbers: &mut Numbers) -> (u8, &'static str) {
     if wait < FREE {
         return PLAIN;
     }
     match numbers.below(8) {
-        0 if offset < HIGHEST_OFFSET => INCREMENT,
-        1 if offset > 0 => DECREMENT,
+        0 if anywhere || offset < HIGHEST_IN_ITSELF => INCREMENT,
+        1 if anywhere || offset > 0 => DECREMENT,
         _ => PLAIN,
     }
 }
@@ -188,11 +192,12 @@ fn units(asked_for: Arguments, output: &mut impl Write) -> Result<(), String> {
     let mut containers = Containers::fresh(trace);
     let mut current = containers.make(&mut numbers)?;
     let mut next = containers.make(&mut numbers)?;
+    let anywhere = offset > HIGHEST_IN_ITSELF;
     let (mut offset, mut wait) = (offset, FREE);
     let unwritten = |error: io::Error| error.to_string();
 
     for number in 0..count {
-        let (asked, name) = choose(offset, wait, &mut numbers);
+        let (asked, name) = choose(anywhere, offset, wait, &mut numbers);
         let mut unit = vec![0xEE; UNIT_LENGTH];
         // SAFETY: each pointer is given with the length of what it points to;
         // only the unit is written, and nothing else refers to it.
