@@ -1,6 +1,7 @@
 //! A second program for the parts of the path card that can be asked in bytes
 //! and numbers: parity, trace check, word reading, the pointer words that the
-//! source writes, and the circuit catalogue with its lookup and listing.
+//! source writes, the container source and the unit source, the payload call,
+//! and the circuit catalogue with its lookup and listing.
 //!
 //! Written from the rules paper ("01") alone; only two values in the tests,
 //! said there to be published, come from elsewhere. The words in quotation
@@ -159,6 +160,285 @@ pub fn inverted(word: u16, value: u16) -> (u32, u32) {
         (differing & I_BITS).count_ones(),
         (differing & D_BITS).count_ones(),
     )
+}
+
+// ---------------------------------------------------------------------------
+// Containers
+// ---------------------------------------------------------------------------
+
+/// "A container (VC-4) is 9 rows of 261 bytes, 2349 in all."
+pub const ROWS: usize = 9;
+pub const ROW_LENGTH: usize = 261;
+pub const CONTAINER_LENGTH: usize = ROWS * ROW_LENGTH;
+/// "The other 2340 bytes are payload, row by row."
+pub const PAYLOAD_LENGTH: usize = ROWS * (ROW_LENGTH - 1);
+
+/// "J1 carries 16 bytes in turn": the last place of the message, counted from
+/// the start byte at 0.
+const LAST_PLACE: u8 = 15;
+
+/// State of a container source: the place in the message of the J1 that comes
+/// next (0 is the start byte), and the parity of "the container before".
+#[derive(Clone, Copy, Debug, PartialEq, Eq)]
+pub struct ContainerSource {
+    pub place: u8,
+    pub parity: u8,
+}
+
+impl ContainerSource {
+    /// "a fresh container source begins at the start byte"; B3 is "00 in a
+    /// source's first".
+    pub fn fresh() -> Self {
+        ContainerSource {
+            place: 0,
+            parity: 0x00,
+        }
+    }
+}
+
+/// What is given for one container's column 1: C2; "F2, H4, F3, K3, N1 are
+/// given to the source"; for G1 "the violations returned" and "remote defect".
+#[derive(Clone, Copy, Debug, PartialEq, Eq)]
+pub struct Given {
+    pub label: u8,
+    pub f2: u8,
+    pub h4: u8,
+    pub f3: u8,
+    pub k3: u8,
+    pub n1: u8,
+    pub violations: u8,
+    pub remote: bool,
+}
+
+/// The same byte as `start_byte` gives, without a list of bits: the remainder
+/// stands in the upper seven bits of one byte, and the message goes through it
+/// bit by bit.
+fn sent_start_byte(characters: &[u8; 15]) -> u8 {
+    // "x^7 + x^3 + 1" without its leading power, one bit up.
+    const DIVISOR_REST: u8 = 0b000_1001 << 1;
+    let mut rest = 0;
+    // "the start byte taken as 80"
+    for byte in [0x80].iter().chain(characters) {
+        rest ^= byte;
+        for _ in 0..8 {
+            let leads = rest & 0x80 != 0;
+            rest <<= 1;
+            if leads {
+                rest ^= DIVISOR_REST;
+            }
+        }
+    }
+    0x80 | (rest >> 1)
+}
+
+/// Writes one container; the new state, or the refusal's number, in the order
+/// "8, 4, 5, 2, 3, 6". "A refusal returns its number and the old state.
+/// Nothing lent is written."
+pub fn container_source(
+    s: ContainerSource,
+    g: Given,
+    trace: &[u8; 15],
+    payload: &[u8],
+    container: &mut [u8],
+) -> Result<ContainerSource, u8> {
+    // 8: "a state number outside its range"; "message place 15"
+    if s.place > LAST_PLACE {
+        return Err(8);
+    }
+    // 4: "sent ... label 00 or FF"
+    if g.label == 0x00 || g.label == 0xFF {
+        return Err(4);
+    }
+    // 5: "trace character outside 20 to 7E"
+    if trace.iter().any(|character| *character < 0x20 || *character > 0x7E) {
+        return Err(5);
+    }
+    // 2: "payload not 2340 bytes"
+    if payload.len() != PAYLOAD_LENGTH {
+        return Err(2);
+    }
+    // 3: "a container ... not 2349 bytes"
+    if container.len() != CONTAINER_LENGTH {
+        return Err(3);
+    }
+    // 6: "violations to return above 8"
+    if g.violations > 8 {
+        return Err(6);
+    }
+
+    // "J1 carries 16 bytes in turn: a start byte ..., then 15 characters"
+    let j1 = match s.place {
+        0 => sent_start_byte(trace),
+        place => trace[usize::from(place) - 1],
+    };
+    // "G1: bits 1-4 the violations returned ..., bit 5 remote defect, the rest
+    // sent 0"; bit 1 is the top one.
+    let g1 = (g.violations << 4) | (u8::from(g.remote) << 3);
+    // "Column 1 holds J1, B3, C2, G1, F2, H4, F3, K3, N1 from the top."
+    let column = [j1, s.parity, g.label, g1, g.f2, g.h4, g.f3, g.k3, g.n1];
+    for ((row, overhead), part) in container
+        .chunks_exact_mut(ROW_LENGTH)
+        .zip(column)
+        .zip(payload.chunks_exact(ROW_LENGTH - 1))
+    {
+        row[0] = overhead;
+        row[1..].copy_from_slice(part);
+    }
+
+    Ok(ContainerSource {
+        place: if s.place == LAST_PLACE { 0 } else { s.place + 1 },
+        // "the exclusive or of all 2349 bytes of the container before", its B3
+        // among them
+        parity: parity(container),
+    })
+}
+
+/// "The payload call writes 2340 bytes, or 2340 of FF where AIS is asked for."
+/// Refused in the order "3, 2".
+pub fn payload_call(container: &[u8], ais: bool, payload: &mut [u8]) -> Result<(), u8> {
+    // 3: "a container ... not 2349 bytes"
+    if container.len() != CONTAINER_LENGTH {
+        return Err(3);
+    }
+    // 2: "payload not 2340 bytes"
+    if payload.len() != PAYLOAD_LENGTH {
+        return Err(2);
+    }
+    if ais {
+        payload.fill(0xFF);
+        return Ok(());
+    }
+    for (part, row) in payload
+        .chunks_exact_mut(ROW_LENGTH - 1)
+        .zip(container.chunks_exact(ROW_LENGTH))
+    {
+        part.copy_from_slice(&row[1..]);
+    }
+    Ok(())
+}
+
+// ---------------------------------------------------------------------------
+// Units
+// ---------------------------------------------------------------------------
+
+/// "A unit is 2358 bytes: H1 Y Y H2 1* 1* H3 H3 H3, then 2349 bytes".
+pub const UNIT_LENGTH: usize = HEAD_LENGTH + CONTAINER_LENGTH;
+const HEAD_LENGTH: usize = 9;
+/// Three bytes: the H3 bytes, the places that an increment skips, and what one
+/// step of the value is worth.
+const STEP: usize = 3;
+
+/// "The source writes Y = 9B and 1* = FF, and 00 in unused H3 or skipped
+/// places".
+const Y: u8 = 0x9B;
+const ONE_STAR: u8 = 0xFF;
+const UNUSED: u8 = 0x00;
+
+/// "Value 0 to 782".
+const LAST_VALUE: u16 = 782;
+/// "at least three units lie between this one and the last adjustment".
+const LONGEST_WAIT: u8 = 3;
+
+/// What a unit source is asked for beside the bytes.
+#[derive(Clone, Copy, Debug, PartialEq, Eq)]
+pub enum Asked {
+    Nothing,
+    Increment,
+    Decrement,
+}
+
+/// State of a unit source: the offset, a pointer value, and the units since the
+/// last adjustment, of which no more than three are counted ("wait 3").
+#[derive(Clone, Copy, Debug, PartialEq, Eq)]
+pub struct UnitSource {
+    pub offset: u16,
+    pub wait: u8,
+}
+
+impl UnitSource {
+    /// "Fresh, it stands at offset 0, free to adjust".
+    pub fn fresh() -> Self {
+        UnitSource {
+            offset: 0,
+            wait: LONGEST_WAIT,
+        }
+    }
+}
+
+/// How much of the current container the units before have carried: "2349
+/// minus 3 times the offset, or 0 at offset 0".
+fn sent(offset: u16) -> usize {
+    match usize::from(offset) {
+        0 => 0,
+        value => CONTAINER_LENGTH - STEP * value,
+    }
+}
+
+/// Writes one unit out of "the current container and the next, and says how
+/// many of them ended"; the refusal's number otherwise, in the order "8, 3, 1,
+/// 7". A refused call is no unit.
+pub fn unit_source(
+    s: UnitSource,
+    asked: Asked,
+    current: &[u8],
+    next: &[u8],
+    unit: &mut [u8],
+) -> Result<(u8, UnitSource), u8> {
+    // 8: "a state number outside its range"
+    if s.offset > LAST_VALUE || s.wait > LONGEST_WAIT {
+        return Err(8);
+    }
+    // 3: "a container ... not 2349 bytes", be it sent or not
+    if current.len() != CONTAINER_LENGTH || next.len() != CONTAINER_LENGTH {
+        return Err(3);
+    }
+    // 1: "unit not 2358 bytes"
+    if unit.len() != UNIT_LENGTH {
+        return Err(1);
+    }
+    // 7: "adjustment asked with fewer than three units since the last"
+    if asked != Asked::Nothing && s.wait < LONGEST_WAIT {
+        return Err(7);
+    }
+
+    // "The source sends the inverted word in the unit of the adjustment and the
+    // new value from the next." "782 goes up to 0, and 0 down to 782."
+    let (word, first, offset) = match asked {
+        Asked::Nothing => (plain_word(s.offset), HEAD_LENGTH, s.offset),
+        // "In an increment unit byte offsets 0 to 2 are skipped"
+        Asked::Increment => (
+            increment_word(s.offset),
+            HEAD_LENGTH + STEP,
+            if s.offset == LAST_VALUE { 0 } else { s.offset + 1 },
+        ),
+        // "In a decrement unit the three H3 bytes carry container bytes."
+        Asked::Decrement => (
+            decrement_word(s.offset),
+            HEAD_LENGTH - STEP,
+            if s.offset == 0 { LAST_VALUE } else { s.offset - 1 },
+        ),
+    };
+
+    // "H1 Y Y H2 1* 1*"; what is 00 behind them stays so up to the first place
+    // that carries.
+    let [h1, h2] = word.to_be_bytes();
+    let (head, carrying) = unit.split_at_mut(first);
+    head[..HEAD_LENGTH - STEP].copy_from_slice(&[h1, Y, Y, h2, ONE_STAR, ONE_STAR]);
+    head[HEAD_LENGTH - STEP..].fill(UNUSED);
+
+    // The rest of the current container, then the next, until the unit is full.
+    let rest = &current[sent(s.offset)..];
+    let from_current = rest.len().min(carrying.len());
+    let (ending, beginning) = carrying.split_at_mut(from_current);
+    ending.copy_from_slice(&rest[..from_current]);
+    beginning.copy_from_slice(&next[..beginning.len()]);
+    let ended = u8::from(from_current == rest.len()) + u8::from(beginning.len() == next.len());
+
+    let wait = match asked {
+        Asked::Nothing => LONGEST_WAIT.min(s.wait + 1),
+        Asked::Increment | Asked::Decrement => 0,
+    };
+    Ok((ended, UnitSource { offset, wait }))
 }
 
 // ---------------------------------------------------------------------------
@@ -592,6 +872,507 @@ mod tests {
             for word in [plain_word(value), increment_word(value), decrement_word(value)] {
                 assert_eq!(word >> 10, 0b0110_10);
             }
+        }
+    }
+
+    // Containers
+
+    const GIVEN: Given = Given {
+        label: 0x12,
+        f2: 0xF2,
+        h4: 0x14,
+        f3: 0xF3,
+        k3: 0x13,
+        n1: 0x11,
+        violations: 0,
+        remote: false,
+    };
+
+    /// Bytes without pattern.
+    fn some_bytes(length: usize, seed: &mut u32) -> Vec<u8> {
+        (0..length).map(|_| next(seed) as u8).collect()
+    }
+
+    /// Containers as a fresh source makes them, one behind the other.
+    fn containers(count: usize, trace: &[u8; 15], seed: &mut u32) -> Vec<Vec<u8>> {
+        let mut state = ContainerSource::fresh();
+        let mut made = Vec::new();
+        for _ in 0..count {
+            let payload = some_bytes(PAYLOAD_LENGTH, seed);
+            let mut container = vec![0xEE; CONTAINER_LENGTH];
+            state = container_source(state, GIVEN, trace, &payload, &mut container).unwrap();
+            made.push(container);
+        }
+        made
+    }
+
+    #[test]
+    fn the_two_ways_to_the_start_byte_agree() {
+        let mut seed = 3;
+        for _ in 0..500 {
+            let mut characters = [0; 15];
+            for character in &mut characters {
+                *character = next(&mut seed) as u8;
+            }
+            assert_eq!(sent_start_byte(&characters), start_byte(&characters));
+        }
+        assert_eq!(sent_start_byte(&[0x00; 15]), 0x89);
+    }
+
+    #[test]
+    fn column_1_from_the_top_and_payload_row_by_row() {
+        let mut seed = 11;
+        let trace = padded(b"03E5");
+        let payload = some_bytes(2340, &mut seed);
+        let given = Given {
+            label: 0xC2,
+            f2: 1,
+            h4: 2,
+            f3: 3,
+            k3: 4,
+            n1: 5,
+            violations: 7,
+            remote: true,
+        };
+        let before = ContainerSource {
+            place: 4,
+            parity: 0xB3,
+        };
+        let mut container = vec![0xEE; 2349];
+        let after = container_source(before, given, &trace, &payload, &mut container).unwrap();
+
+        let column: Vec<u8> = (0..9).map(|row| container[261 * row]).collect();
+        assert_eq!(column, [b'5', 0xB3, 0xC2, 0x78, 1, 2, 3, 4, 5]);
+        for row in 0..9 {
+            for place in 0..260 {
+                assert_eq!(container[261 * row + 1 + place], payload[260 * row + place]);
+            }
+        }
+        assert_eq!(
+            after,
+            ContainerSource {
+                place: 5,
+                parity: parity(&container)
+            }
+        );
+    }
+
+    #[test]
+    fn b3_is_the_parity_of_the_container_before_its_own_b3_included() {
+        let made = containers(40, &padded(b"03E5"), &mut 5);
+        assert_eq!(made[0][261], 0x00);
+        for pair in made.windows(2) {
+            let mut all = 0x00;
+            for byte in &pair[0] {
+                all ^= byte;
+            }
+            assert_eq!(pair[1][261], all);
+        }
+        // Some B3 was not 00, so that leaving it out would have been seen.
+        assert!(made[..39].iter().any(|container| container[261] != 0x00));
+    }
+
+    #[test]
+    fn j1_over_16_containers_is_the_message() {
+        for trace in [padded(b"03E5"), *b"ABCDEFGHIJKLMNO", [0x20; 15], [0x7E; 15]] {
+            let made = containers(40, &trace, &mut 6);
+            let j1: Vec<u8> = made.iter().map(|container| container[0]).collect();
+            assert_eq!(j1[..16], message(&trace));
+            assert!(trace_check(&j1[..16]));
+            assert_eq!(j1[16..32], j1[..16]);
+            assert_eq!(j1[32..], j1[..8]);
+        }
+        assert_eq!(ContainerSource::fresh(), ContainerSource { place: 0, parity: 0 });
+    }
+
+    #[test]
+    fn g1_has_violations_in_bits_1_to_4_and_remote_defect_in_bit_5() {
+        let payload = [0x55; 2340];
+        for violations in 0..=8 {
+            for remote in [false, true] {
+                let given = Given {
+                    violations,
+                    remote,
+                    ..GIVEN
+                };
+                let mut container = [0xEE; 2349];
+                let done = container_source(
+                    ContainerSource::fresh(),
+                    given,
+                    &padded(b"A"),
+                    &payload,
+                    &mut container,
+                );
+                assert!(done.is_ok());
+                let expected = 0x10 * violations + if remote { 0x08 } else { 0x00 };
+                assert_eq!(container[3 * 261], expected);
+            }
+        }
+    }
+
+    #[test]
+    fn container_source_refusals_come_in_the_order_8_4_5_2_3_6() {
+        // Every fault at once; they are put right one by one in the order in
+        // which they are named.
+        let mut state = ContainerSource {
+            place: 16,
+            parity: 0x77,
+        };
+        let mut given = Given {
+            label: 0x00,
+            violations: 9,
+            ..GIVEN
+        };
+        let mut trace = padded(b"A");
+        trace[14] = 0x7F;
+        let mut payload = vec![0x33; 2339];
+        let mut container = vec![0xEE; 2350];
+        let mut ask = |s, g, trace: &[u8; 15], payload: &[u8], length| {
+            container.resize(length, 0xEE);
+            let answer = container_source(s, g, trace, payload, &mut container);
+            if answer.is_err() {
+                // "Nothing lent is written."
+                assert!(container.iter().all(|byte| *byte == 0xEE));
+            }
+            answer
+        };
+
+        assert_eq!(ask(state, given, &trace, &payload, 2350), Err(8));
+        state.place = 15;
+        assert_eq!(ask(state, given, &trace, &payload, 2350), Err(4));
+        given.label = 0xFF;
+        assert_eq!(ask(state, given, &trace, &payload, 2350), Err(4));
+        given.label = 0xFE;
+        assert_eq!(ask(state, given, &trace, &payload, 2350), Err(5));
+        trace[14] = 0x1F;
+        assert_eq!(ask(state, given, &trace, &payload, 2350), Err(5));
+        trace[14] = 0x7E;
+        assert_eq!(ask(state, given, &trace, &payload, 2350), Err(2));
+        payload.resize(2341, 0x33);
+        assert_eq!(ask(state, given, &trace, &payload, 2350), Err(2));
+        payload.resize(2340, 0x33);
+        assert_eq!(ask(state, given, &trace, &payload, 2350), Err(3));
+        assert_eq!(ask(state, given, &trace, &payload, 2348), Err(3));
+        assert_eq!(ask(state, given, &trace, &payload, 0), Err(3));
+        assert_eq!(ask(state, given, &trace, &payload, 2349), Err(6));
+        given.violations = 255;
+        assert_eq!(ask(state, given, &trace, &payload, 2349), Err(6));
+        given.violations = 8;
+        let after = ask(state, given, &trace, &payload, 2349).unwrap();
+        assert_eq!(after.place, 0);
+    }
+
+    #[test]
+    fn each_container_source_refusal_alone() {
+        let ask = |s: ContainerSource, g: Given, trace: &[u8; 15], payload: usize, container: usize| {
+            let bytes = vec![0x33; payload];
+            let mut written = vec![0xEE; container];
+            container_source(s, g, trace, &bytes, &mut written).map(|_| ())
+        };
+        let fresh = ContainerSource::fresh();
+        let good = padded(b"A");
+        assert_eq!(ask(fresh, GIVEN, &good, 2340, 2349), Ok(()));
+        for place in 0..=255 {
+            let answer = if place <= 15 { Ok(()) } else { Err(8) };
+            for parity in [0x00, 0x5A, 0xFF] {
+                assert_eq!(ask(ContainerSource { place, parity }, GIVEN, &good, 2340, 2349), answer);
+            }
+        }
+        for label in 0..=255 {
+            let answer = if (1..=254).contains(&label) { Ok(()) } else { Err(4) };
+            assert_eq!(ask(fresh, Given { label, ..GIVEN }, &good, 2340, 2349), answer);
+        }
+        for place in 0..15 {
+            for character in 0..=255 {
+                let mut trace = good;
+                trace[place] = character;
+                let answer = if (0x20..=0x7E).contains(&character) { Ok(()) } else { Err(5) };
+                assert_eq!(ask(fresh, GIVEN, &trace, 2340, 2349), answer);
+            }
+        }
+        for length in [0, 1, 2339, 2341, 2349] {
+            assert_eq!(ask(fresh, GIVEN, &good, length, 2349), Err(2));
+        }
+        for length in [0, 1, 2340, 2348, 2350, 2358] {
+            assert_eq!(ask(fresh, GIVEN, &good, 2340, length), Err(3));
+        }
+        for violations in 0..=255 {
+            let answer = if violations <= 8 { Ok(()) } else { Err(6) };
+            assert_eq!(ask(fresh, Given { violations, ..GIVEN }, &good, 2340, 2349), answer);
+        }
+    }
+
+    #[test]
+    fn the_payload_call_gives_back_what_was_sent_or_ff() {
+        let mut seed = 12;
+        let sent = some_bytes(2340, &mut seed);
+        let mut container = vec![0; 2349];
+        container_source(
+            ContainerSource::fresh(),
+            GIVEN,
+            &padded(b"A"),
+            &sent,
+            &mut container,
+        )
+        .unwrap();
+        let mut payload = vec![0xEE; 2340];
+        assert_eq!(payload_call(&container, false, &mut payload), Ok(()));
+        assert_eq!(payload, sent);
+        assert_eq!(payload_call(&container, true, &mut payload), Ok(()));
+        assert_eq!(payload, [0xFF; 2340]);
+    }
+
+    #[test]
+    fn the_payload_call_refuses_3_then_2() {
+        for ais in [false, true] {
+            for container in [0, 2340, 2348, 2349, 2350] {
+                for length in [0, 2339, 2340, 2341, 2349] {
+                    let mut payload = vec![0xEE; length];
+                    let answer = payload_call(&vec![0x33; container], ais, &mut payload);
+                    let expected = match (container, length) {
+                        (2349, 2340) => Ok(()),
+                        (2349, _) => Err(2),
+                        _ => Err(3),
+                    };
+                    assert_eq!(answer, expected);
+                    if answer.is_err() {
+                        assert!(payload.iter().all(|byte| *byte == 0xEE));
+                    }
+                }
+            }
+        }
+    }
+
+    // Units
+
+    const ALL_ASKED: [Asked; 3] = [Asked::Nothing, Asked::Increment, Asked::Decrement];
+
+    /// The first place of a unit that carries container bytes.
+    fn first_place(asked: Asked) -> usize {
+        match asked {
+            Asked::Nothing => 9,
+            Asked::Increment => 12,
+            Asked::Decrement => 6,
+        }
+    }
+
+    /// One unit of a source free to adjust, out of two containers without
+    /// pattern.
+    fn one_unit(offset: u16, asked: Asked) -> (u8, UnitSource, Vec<u8>, Vec<u8>, Vec<u8>) {
+        let mut seed = 100 + u32::from(offset);
+        let current = some_bytes(2349, &mut seed);
+        let next = some_bytes(2349, &mut seed);
+        let mut unit = vec![0xEE; 2358];
+        let state = UnitSource { offset, wait: 3 };
+        let (ended, after) = unit_source(state, asked, &current, &next, &mut unit).unwrap();
+        (ended, after, current, next, unit)
+    }
+
+    #[test]
+    fn the_head_of_each_unit() {
+        for offset in 0..=782 {
+            for asked in ALL_ASKED {
+                let (_, _, _, _, unit) = one_unit(offset, asked);
+                let word = u16::from_be_bytes([unit[0], unit[3]]);
+                let expected = match asked {
+                    Asked::Nothing => plain_word(offset),
+                    Asked::Increment => increment_word(offset),
+                    Asked::Decrement => decrement_word(offset),
+                };
+                assert_eq!(word, expected);
+                assert_eq!([unit[1], unit[2], unit[4], unit[5]], [0x9B, 0x9B, 0xFF, 0xFF]);
+                assert!(unit[6..first_place(asked)].iter().all(|byte| *byte == 0x00));
+            }
+        }
+    }
+
+    #[test]
+    fn the_new_offset_wraps() {
+        for offset in 0..=782 {
+            let up = if offset == 782 { 0 } else { offset + 1 };
+            let down = if offset == 0 { 782 } else { offset - 1 };
+            assert_eq!(one_unit(offset, Asked::Nothing).1, UnitSource { offset, wait: 3 });
+            assert_eq!(one_unit(offset, Asked::Increment).1, UnitSource { offset: up, wait: 0 });
+            assert_eq!(one_unit(offset, Asked::Decrement).1, UnitSource { offset: down, wait: 0 });
+        }
+    }
+
+    #[test]
+    fn how_many_ended() {
+        for offset in 0..=782 {
+            for asked in ALL_ASKED {
+                let expected = match (offset, asked) {
+                    // "P2 ends none"
+                    (0, Asked::Increment) => 0,
+                    // "P5 after plain units ends two containers"
+                    (1, Asked::Decrement) => 2,
+                    // 782 up to 0 and 0 down to 782 among them.
+                    _ => 1,
+                };
+                assert_eq!(one_unit(offset, asked).0, expected);
+            }
+        }
+    }
+
+    #[test]
+    fn j1_stands_at_3_times_the_value_after_the_unit() {
+        for offset in 0..=782u16 {
+            for asked in ALL_ASKED {
+                let (_, after, current, next, unit) = one_unit(offset, asked);
+                // "J1 is already displaced in the adjustment unit."
+                let place = 9 + 3 * usize::from(after.offset);
+                let here = &unit[place..];
+                match (offset, asked) {
+                    // "an increment to 0 begins no container in its own unit"
+                    (782, Asked::Increment) => assert_eq!(unit[12..], current[3..]),
+                    // The whole of the current one begins here.
+                    (0, Asked::Nothing) => assert_eq!(here, current),
+                    (0, Asked::Increment) => assert_eq!(here, &current[..2346]),
+                    // "P3 starts one container in H3 and the next at byte
+                    // offset 2346."
+                    (0, Asked::Decrement) => {
+                        assert_eq!(unit[6..2355], current);
+                        assert_eq!(place, 9 + 2346);
+                        assert_eq!(here, &next[..3]);
+                    }
+                    // The next one begins here, behind the end of the current.
+                    _ => {
+                        assert_eq!(here, &next[..here.len()]);
+                        let first = first_place(asked);
+                        let rest = 3 * usize::from(offset);
+                        assert_eq!(place, first + rest);
+                        assert_eq!(unit[first..place], current[2349 - rest..]);
+                    }
+                }
+            }
+        }
+    }
+
+    #[test]
+    fn unit_source_refusals_come_in_the_order_8_3_1_7() {
+        // Every fault at once; they are put right one by one in the order in
+        // which they are named.
+        let ask = |offset, wait, asked, current: usize, next: usize, length: usize| {
+            let mut unit = vec![0xEE; length];
+            let answer = unit_source(
+                UnitSource { offset, wait },
+                asked,
+                &vec![0x33; current],
+                &vec![0x44; next],
+                &mut unit,
+            );
+            if answer.is_err() {
+                // "Nothing lent is written."
+                assert!(unit.iter().all(|byte| *byte == 0xEE));
+            }
+            answer
+        };
+        for asked in [Asked::Increment, Asked::Decrement] {
+            assert_eq!(ask(783, 4, asked, 2348, 2350, 2357), Err(8));
+            assert_eq!(ask(782, 4, asked, 2348, 2350, 2357), Err(8));
+            assert_eq!(ask(783, 2, asked, 2348, 2350, 2357), Err(8));
+            assert_eq!(ask(782, 2, asked, 2348, 2350, 2357), Err(3));
+            assert_eq!(ask(782, 2, asked, 2349, 2350, 2357), Err(3));
+            assert_eq!(ask(782, 2, asked, 2348, 2349, 2357), Err(3));
+            assert_eq!(ask(782, 2, asked, 2349, 2349, 2357), Err(1));
+            assert_eq!(ask(782, 2, asked, 2349, 2349, 2359), Err(1));
+            assert_eq!(ask(782, 2, asked, 2349, 2349, 2358), Err(7));
+            assert!(ask(782, 3, asked, 2349, 2349, 2358).is_ok());
+        }
+        // Each alone.
+        let plain = Asked::Nothing;
+        for offset in [783, 784, 1023, 1024, 65_535] {
+            assert_eq!(ask(offset, 3, plain, 2349, 2349, 2358), Err(8));
+        }
+        for wait in 4..=255 {
+            assert_eq!(ask(0, wait, plain, 2349, 2349, 2358), Err(8));
+        }
+        for length in [0, 1, 2340, 2348, 2350, 2358] {
+            assert_eq!(ask(5, 3, plain, length, 2349, 2358), Err(3));
+            assert_eq!(ask(5, 3, plain, 2349, length, 2358), Err(3));
+            // None of the next one is sent here, and yet it is checked.
+            assert_eq!(ask(0, 3, plain, 2349, length, 2358), Err(3));
+        }
+        for length in [0, 1, 9, 2349, 2357, 2359] {
+            assert_eq!(ask(5, 3, plain, 2349, 2349, length), Err(1));
+        }
+        for wait in 0..=3 {
+            assert!(ask(5, wait, plain, 2349, 2349, 2358).is_ok());
+            for asked in [Asked::Increment, Asked::Decrement] {
+                let answer = ask(5, wait, asked, 2349, 2349, 2358);
+                assert_eq!(answer.is_ok(), wait == 3);
+                assert_eq!(answer.err(), if wait == 3 { None } else { Some(7) });
+            }
+        }
+    }
+
+    #[test]
+    fn an_adjustment_and_three_units_between() {
+        let bytes = [0x33; 2349];
+        let mut unit = [0xEE; 2358];
+        let mut ask = |s, asked| unit_source(s, asked, &bytes, &bytes, &mut unit).map(|(_, after)| after);
+        // "Fresh, it stands at offset 0, free to adjust"
+        let mut state = UnitSource::fresh();
+        assert_eq!(state, UnitSource { offset: 0, wait: 3 });
+        for asked in [Asked::Decrement, Asked::Increment, Asked::Increment] {
+            state = ask(state, asked).unwrap();
+            assert_eq!(state.wait, 0);
+            for wait in 1..=3 {
+                assert_eq!(ask(state, Asked::Increment), Err(7));
+                assert_eq!(ask(state, Asked::Decrement), Err(7));
+                state = ask(state, Asked::Nothing).unwrap();
+                assert_eq!(state.wait, wait);
+            }
+        }
+        assert_eq!(state.offset, 1);
+        // Counts stop at the end of their range.
+        state = ask(state, Asked::Nothing).unwrap();
+        assert_eq!(state, UnitSource { offset: 1, wait: 3 });
+    }
+
+    #[test]
+    fn the_bytes_carried_are_the_containers_joined() {
+        for (seed, offset) in [0, 1, 2, 391, 781, 782].into_iter().enumerate() {
+            let mut seed = 1 + seed as u32;
+            let made = containers(420, &padded(b"03E5"), &mut seed);
+            let mut state = UnitSource { offset, wait: 3 };
+            let mut current = 0;
+            let mut carried = Vec::new();
+            let mut adjustments = 0;
+            for _ in 0..400 {
+                let asked = match next(&mut seed) % 8 {
+                    0..=2 => Asked::Increment,
+                    3..=5 => Asked::Decrement,
+                    _ => Asked::Nothing,
+                };
+                let mut unit = vec![0xEE; 2358];
+                let answer = unit_source(state, asked, &made[current], &made[current + 1], &mut unit);
+                if answer == Err(7) {
+                    assert!(state.wait < 3);
+                    // "A refusal returns ... the old state": the unit is asked
+                    // for again without.
+                    let (ended, after) =
+                        unit_source(state, Asked::Nothing, &made[current], &made[current + 1], &mut unit).unwrap();
+                    carried.extend_from_slice(&unit[9..]);
+                    current += usize::from(ended);
+                    state = after;
+                    continue;
+                }
+                let (ended, after) = answer.unwrap();
+                adjustments += usize::from(asked != Asked::Nothing);
+                carried.extend_from_slice(&unit[first_place(asked)..]);
+                current += usize::from(ended);
+                state = after;
+            }
+            assert!(adjustments > 60);
+            // What was sent of the first container before is not among them.
+            let before = if offset == 0 { 0 } else { 2349 - 3 * usize::from(offset) };
+            let joined = made.concat();
+            assert_eq!(carried, joined[before..before + carried.len()]);
+            // All up to the end of those that ended, and what the offset says
+            // of the one then current.
+            let behind = if state.offset == 0 { 0 } else { 2349 - 3 * usize::from(state.offset) };
+            assert_eq!(before + carried.len(), 2349 * current + behind);
         }
     }
 
