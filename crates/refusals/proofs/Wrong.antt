@@ -25,6 +25,12 @@ unfolding due
 due-none false x rest e = (refl, e)
 due-none true x rest e = let z : length (due true x ++ rest) ≡ 0 = ap length e in absurd (omega arith)
 
+-- the same of the last test
+pub due-false : (b : Bool) (x : Refusal) → due b x ≡ [] → b ≡ false
+unfolding due
+due-false false x e = refl
+due-false true x e = let z : length (due true x) ≡ 0 = ap length e in absurd (omega arith)
+
 -- ---- the answer
 
 pub none-wrong : (l : List Refusal) → answerOf l ≡ Done → l ≡ []

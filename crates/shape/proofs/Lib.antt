@@ -1,2 +1,3 @@
 pub mod Offsets
 pub mod Balance
+pub mod Examples

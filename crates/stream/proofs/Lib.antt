@@ -1,1 +1,3 @@
 pub mod Shares
+pub mod Spaced
+pub mod Examples

@@ -1,5 +1,7 @@
 -- A unit source called again and again: it is given its containers in order, the next ones after as many as it says ended, and the buffer of one unit is lent again for the next.
 use Prim.Native.Nat.{ℕ, zero, suc, _+_, _*_, _≤_}
+use mathlib.Core.Bool.{Bool, true, false, _&&_, not}
+use lib.Dec.{ltb}
 use mathlib.Core.List.{List, [], _∷_, _++_}
 use lib.ListN.{length, take, drop}
 use Rattle.refusals.specs.declared.Answer.{Answer}
@@ -7,8 +9,12 @@ use Rattle.refusals.specs.declared.Answer.the-variants.{Done, Refused}
 use Rattle.shape.specs.Shape.{heldCount, runFrom}
 use Rattle.shape.specs.declared.Shape.{Shape}
 use Rattle.shape.specs.declared.Adjustment.{Adjustment}
-use Rattle.unit_source.specs.Source.{Outcome, unitSource}
+use Rattle.unit_source.specs.Source.{Outcome, adjusts, waitAfter, unitSource}
 use Rattle.unit_source.specs.declared.State.{State}
+
+unfoldable pub isDone : Answer → Bool
+isDone Done = true
+isDone (Refused x) = false
 
 -- a source between two calls: its state, the number of its current container, and what stands in the lent unit
 pub record Sending : Type 0 where
@@ -54,6 +60,16 @@ module _ (s : Shape) (box : ℕ → List ℕ) where
   unfoldable pub ended : Sending → List Adjustment → ℕ
   ended x [] = 0
   ended x (a ∷ row) = called x a .made .ended + ended (after x a) row
+
+  -- every call of the row is done
+  unfoldable pub allDone : Sending → List Adjustment → Bool
+  allDone x [] = true
+  allDone x (a ∷ row) = isDone (called x a .made .answer) && allDone (after x a) row
+
+-- adjustments with "at least three units" between them, and after the last one before the row
+unfoldable pub spaced : ℕ → List Adjustment → Bool
+spaced wait [] = true
+spaced wait (a ∷ row) = not (adjusts a && ltb wait 3) && spaced (waitAfter a wait) row
 
 -- n containers from number i on, joined
 unfoldable pub joined : (ℕ → List ℕ) → ℕ → ℕ → List ℕ

@@ -5,9 +5,9 @@ use mathlib.Core.List.{List}
 use Prim.Native.Nat.{ℕ, _≤_}
 use lib.Dec.{eqb, ltb}
 use lib.ListN.{length}
-use borrow.Author.Tests.{ltb-false, eqb-true, eq-eqb, ne-eqb, not-false}
+use borrow.Author.Tests.{ltb-false, le-ltb, eqb-true, eq-eqb, ne-eqb, not-false}
 use Rattle.refusals.specs.Refusals.{due, answerOf}
-use Rattle.refusals.proofs.Wrong.{due-none, none-wrong, outcome-done, outcome-refused}
+use Rattle.refusals.proofs.Wrong.{due-none, due-false, none-wrong, outcome-done, outcome-refused}
 use Rattle.refusals.specs.declared.Refusal.{Refusal}
 use Rattle.refusals.specs.declared.Refusal.the-variants as wrong
 use Rattle.refusals.specs.declared.Answer.{Answer}
@@ -45,47 +45,83 @@ module _ (s : Shape) (state : State) (a : Adjustment) (current next unit : ℕ) 
         unfolding makeFaults due answerOf
         nothing-wrong h = rw (← out-is, in-range, both, eq-eqb unit (unitLength s) unit-is, ← asked-is, h) refl
 
--- ---- what a call that is done has shown
+-- ---- a call is done exactly if no row of the table applies
 
 or-false : (a b : Bool) → (a || b) ≡ false → (a ≡ false) × (b ≡ false)
 or-false false b e = (refl, e)
 or-false true b e = absurd (true≢false e)
 
-pub ready : (s : Shape) (state : State) (a : Adjustment) (current next unit : ℕ) → answerOf (makeFaults s state a current next unit) ≡ Done → Ready s (state .offset) current next unit
-unfolding makeFaults outOfRange
-ready s state a current next unit e =
-    let w = none-wrong (makeFaults s state a current next unit) e in
-    let p = due-none (outOfRange (s .top) state) wrong.State _ w in
-    let q = due-none (not (eqb current (s .size)) || not (eqb next (s .size))) wrong.Container _ (p .1) in
-    let r = due-none (not (eqb unit (unitLength s))) wrong.Unit _ (q .1) in
-    let range = or-false (ltb (s .top) (state .offset)) (ltb 3 (state .wait)) (p .0) in
-    let both = or-false (not (eqb current (s .size))) (not (eqb next (s .size))) (q .0) in
-    record {
-      offset-low = ltb-false (s .top) (state .offset) (range .0);
-      current-is = eqb-true current (s .size) (not-false (eqb current (s .size)) (both .0));
-      next-is = eqb-true next (s .size) (not-false (eqb next (s .size)) (both .1));
-      unit-is = eqb-true unit (unitLength s) (not-false (eqb unit (unitLength s)) (r .0));
-    }
+-- no row of the table applies
+pub record Admitted (s : Shape) (state : State) (a : Adjustment) (current next unit : ℕ) : Type 0 where
+  pub ready : Ready s (state .offset) current next unit
+  pub wait-low : state .wait ≤ 3
+  pub free : adjusts a ≡ true → 3 ≤ state .wait
+
+module _ (s : Shape) (state : State) (a : Adjustment) (current next unit : ℕ) where
+  pub admitted : answerOf (makeFaults s state a current next unit) ≡ Done → Admitted s state a current next unit
+  unfolding makeFaults outOfRange
+  admitted e =
+      let w = none-wrong (makeFaults s state a current next unit) e in
+      let p = due-none (outOfRange (s .top) state) wrong.State _ w in
+      let q = due-none (not (eqb current (s .size)) || not (eqb next (s .size))) wrong.Container _ (p .1) in
+      let r = due-none (not (eqb unit (unitLength s))) wrong.Unit _ (q .1) in
+      let late = due-false (adjusts a && ltb (state .wait) 3) wrong.Adjustment (r .1) in
+      let range = or-false (ltb (s .top) (state .offset)) (ltb 3 (state .wait)) (p .0) in
+      let both = or-false (not (eqb current (s .size))) (not (eqb next (s .size))) (q .0) in
+      record {
+        ready =
+            record {
+              offset-low = ltb-false (s .top) (state .offset) (range .0);
+              current-is = eqb-true current (s .size) (not-false (eqb current (s .size)) (both .0));
+              next-is = eqb-true next (s .size) (not-false (eqb next (s .size)) (both .1));
+              unit-is = eqb-true unit (unitLength s) (not-false (eqb unit (unitLength s)) (r .0));
+            };
+        wait-low = ltb-false 3 (state .wait) (range .1);
+        free = λ h. ltb-false (state .wait) 3 (rw h at late);
+      }
+
+  pub not-refused : Admitted s state a current next unit → answerOf (makeFaults s state a current next unit) ≡ Done
+  unfolding makeFaults outOfRange due answerOf
+  not-refused h =
+      let r = h .ready in
+      let late : (adjusts a && ltb (state .wait) 3) ≡ false = soon (adjusts a) (h .free) in
+      simp (le-ltb (s .top) (state .offset) (r .offset-low), le-ltb 3 (state .wait) (h .wait-low), eq-eqb current (s .size) (r .current-is), eq-eqb next (s .size) (r .next-is), eq-eqb unit (unitLength s) (r .unit-is), late)
+    where
+      soon : (b : Bool) → (b ≡ true → 3 ≤ state .wait) → (b && ltb (state .wait) 3) ≡ false
+      soon false f = refl
+      soon true f = le-ltb (state .wait) 3 (f refl)
+
+-- ---- what a call leaves
+
+module _ (s : Shape) (state : State) (a : Adjustment) (current next before : List ℕ) where
+  pub source-done : answerOf (makeFaults s state a (length current) (length next) (length before)) ≡ Done
+      → unitSource s state a current next before
+      ≡ record { made = record { answer = Done; ended = endedBy a (state .offset); state = stateAfter s a state }; unit = unitSent s a (state .offset) current next }
+  unfolding unitSource
+  source-done e = outcome-done (makeFaults s state a (length current) (length next) (length before)) _ _ e
+
+  pub source-refused : (x : Refusal) → answerOf (makeFaults s state a (length current) (length next) (length before)) ≡ Refused x
+      → unitSource s state a current next before ≡ record { made = record { answer = Refused x; ended = 0; state = state }; unit = before }
+  unfolding unitSource
+  source-refused x e = outcome-refused (makeFaults s state a (length current) (length next) (length before)) _ _ x e
 
 -- ---- what `make` has to show: where it writes, and at its two ends
 
 module _ (s : Shape) (state : State) (a : Adjustment) (current next before : List ℕ) (r : Answer) (r-is : r ≡ answerOf (makeFaults s state a (length current) (length next) (length before))) where
   pub made-ready : r ≡ Done → Ready s (state .offset) (length current) (length next) (length before)
-  made-ready h = ready s state a (length current) (length next) (length before) (sym r-is ∙ h)
+  made-ready h = admitted s state a (length current) (length next) (length before) (sym r-is ∙ h) .ready
 
   pub made-low : r ≡ Done → state .offset ≤ s .top
   made-low h = made-ready h .offset-low
 
   pub made-refused : (x : Refusal) → r ≡ Refused x → Makes s state a current next before (record { answer = Refused x; ended = 0; state = state }) before
-  unfolding unitSource
-  made-refused x h = sym (outcome-refused (makeFaults s state a (length current) (length next) (length before)) _ _ x (sym r-is ∙ h))
+  made-refused x h = sym (source-refused s state a current next before x (sym r-is ∙ h))
 
   pub made-done : (ended offset wait : ℕ) (after : List ℕ) → r ≡ Done → ended ≡ endedBy a (state .offset) → offset ≡ offsetAfter (s .top) a (state .offset) → wait ≡ waitAfter a (state .wait)
       → after ≡ unitSent s a (state .offset) current next
       → Makes s state a current next before (record { answer = Done; ended = ended; state = record { offset = offset; wait = wait } }) after
-  unfolding unitSource stateAfter
-  made-done ended offset wait after h e o w u =
-      rw (e, o, w, u) (sym (outcome-done (makeFaults s state a (length current) (length next) (length before)) _ _ (sym r-is ∙ h)))
+  unfolding stateAfter
+  made-done ended offset wait after h e o w u = rw (e, o, w, u) (sym (source-done s state a current next before (sym r-is ∙ h)))
 
 -- the entry point fixes the shape
 pub makes-at : (s t : Shape) (state : State) (a : Adjustment) (current next before after : List ℕ) (m : Made) → s ≡ t → Makes s state a current next before m after → Makes t state a current next before m after

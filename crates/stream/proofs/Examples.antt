@@ -1,0 +1,51 @@
+-- A run in a small shape, computed by the check: units of 12 bytes, containers of 9, with both adjustments, a request that comes too soon, and both ways over the wrap. Assumes nothing.
+use mathlib.Core.Path.{_≡_, refl}
+use mathlib.Core.Bool.{false}
+use mathlib.Core.List.{List, [], _∷_}
+use Prim.Native.Nat.{ℕ}
+use native.Mathlib.Omega.{arith}
+use lib.ListN.{replicate}
+use Rattle.refusals.specs.Refusals.{due, outcome}
+use Rattle.shape.specs.Shape.{Fit, heldCount, upOf, downOf, offsetAfter, runFrom, endedBy}
+use Rattle.shape.specs.declared.Shape.{Shape}
+use Rattle.shape.specs.declared.Adjustment.{Adjustment}
+use Rattle.shape.specs.declared.Adjustment.the-variants.{Nothing, Increment, Decrement}
+use Rattle.unit.specs.Unit.{groupOf, headOf, runOf}
+use Rattle.unit_source.specs.Source.{freshState, adjusts, outOfRange, makeFaults, wordSent, unitSent, waitAfter, stateAfter, unitSource}
+use Rattle.stream.specs.Stream.{Sending, isDone, called, after, shareIn, shares, ended, allDone, joined}
+
+abbrev pub small : Shape
+small = record { step = 1; size = 9; top = 8; columns = 1 }
+
+pub small-fit : Fit small
+small-fit = record { some = omega arith; fills = refl; nine = refl; two = omega arith; ten = omega arith; low = omega arith }
+
+-- container i is nine bytes of i
+pub box : ℕ → List ℕ
+box i = replicate 9 i
+
+pub fresh : Sending
+fresh = record { state = freshState; number = 0; unit = replicate 12 0 }
+
+-- 0 up to 1, an increment too soon, 1 down to 0, 0 down to 8, 8 up to 0
+pub row : List Adjustment
+row = Increment ∷ Increment ∷ Nothing ∷ Nothing ∷ Nothing ∷ Decrement ∷ Nothing ∷ Nothing ∷ Nothing ∷ Decrement ∷ Nothing ∷ Nothing ∷ Nothing ∷ Increment ∷ []
+
+-- The unit of each adjustment: the inverted word, and 00 in the skipped place, or a container byte in H3.
+pub first-unit : called small box fresh Increment .unit ≡ 0x6a ∷ 0xaa ∷ 0 ∷ 0 ∷ replicate 8 0
+unfolding due outcome heldCount upOf downOf offsetAfter runFrom endedBy groupOf headOf runOf adjusts outOfRange makeFaults wordSent unitSent waitAfter stateAfter unitSource box fresh
+first-unit = refl
+
+-- 13 units were made; 13 containers ended, 0 of them in the first unit and 2 in the first decrement; and the source is at 0 again
+pub counted : ended small box fresh row ≡ 13
+unfolding due outcome heldCount upOf downOf offsetAfter runFrom endedBy groupOf headOf runOf adjusts outOfRange makeFaults wordSent unitSent waitAfter stateAfter unitSource box fresh ended after row
+counted = refl
+
+pub carried : shares small box fresh row ≡ joined box 0 13
+unfolding due outcome heldCount upOf downOf offsetAfter runFrom endedBy groupOf headOf runOf adjusts outOfRange makeFaults wordSent unitSent waitAfter stateAfter unitSource box fresh ended after shares shareIn joined row
+carried = refl
+
+-- the second request came too soon, and was refused
+pub too-soon : allDone small box fresh row ≡ false
+unfolding due outcome heldCount upOf downOf offsetAfter runFrom endedBy groupOf headOf runOf adjusts outOfRange makeFaults wordSent unitSent waitAfter stateAfter unitSource box fresh after allDone isDone row
+too-soon = refl
