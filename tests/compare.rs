@@ -1,12 +1,13 @@
 //! The proved code against the second program, over many inputs: every word,
 //! every length about the ones that matter, good bytes, damaged and cut ones,
-//! and catalogues with any number of faults.
+//! catalogues with any number of faults, and the sources (tests/sources.rs).
 //!
 //! Links libcard.a and libprobe.a. `compare [SEED]`: the seed is fixed unless
 //! one is given. A case that differs is printed whole, and the seed with it.
 
 #[path = "../second/second.rs"]
 mod second;
+mod sources;
 
 /// The proved functions, as C sees them: a slice is a pointer and a length.
 mod proved {
@@ -357,6 +358,7 @@ fn main() {
     words(&mut t);
     messages(&mut r, &mut t);
     catalogues(&mut r, &mut t);
+    sources::compare(&mut r, &mut t);
     println!("compare: {} answers compared, {} differ (seed {seed})", t.compared, t.differed);
     if t.differed > 0 {
         std::process::exit(1);
