@@ -14,6 +14,9 @@ use Rattle.shape.specs.declared.Adjustment.the-variants.{Nothing, Increm
 pub au4-fit : Fit au4
 au4-fit = record { some = omega arith; fills = refl; nine = refl; two = omega arith; ten = omega arith; low = omega arith }
 
+pub au4-fits : (s : Shape) → s ≡ au4 → Fit s
+au4-fits s e = rw e au4-fit
+
 -- ---- places
 
 -- a value in range has its place a step or more before the container's end
