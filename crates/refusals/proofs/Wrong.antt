@@ -7,6 +7,7 @@ use native.Mathlib.Omega.{arith}
 use lib.ListN.{length}
 use Rattle.refusals.specs.Refusals.{due, answerOf, outcome}
 use Rattle.refusals.specs.declared.Refusal.{Refusal}
+use Rattle.refusals.specs.declared.Answer.{Answer}
 use Rattle.refusals.specs.declared.Answer.the-variants.{Done, Refused}
 
 -- ---- one test after the other
@@ -47,3 +48,9 @@ pub outcome-refused : {A : Type 0} (l : List Refusal) (done : A) (kept : Refusal
 unfolding answerOf outcome
 outcome-refused [] done kept x e = let z : _≡_ {A = ℕ} 0 1 = cc in absurd (omega arith)
 outcome-refused (y ∷ l) done kept x e = let q : y ≡ x = cc in rw q refl
+
+-- the answer that an outcome holds is that of all that is wrong
+pub outcome-answer : {A : Type 0} (held : A → Answer) (l : List Refusal) (done : A) (kept : Refusal → A) → held done ≡ Done → ((x : Refusal) → held (kept x) ≡ Refused x) → held (outcome l done kept) ≡ answerOf l
+unfolding answerOf outcome
+outcome-answer held [] done kept e h = e
+outcome-answer held (x ∷ l) done kept e h = h x

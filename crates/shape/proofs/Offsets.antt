@@ -14,8 +14,8 @@ use Rattle.shape.specs.declared.Adjustment.the-variants.{Nothing, Increm
 pub au4-fit : Fit au4
 au4-fit = record { some = omega arith; fills = refl; nine = refl; two = omega arith; ten = omega arith; low = omega arith }
 
-pub fits-au4 : (s : Shape) → s ≡ au4 → Fit s
-fits-au4 s e = rw e au4-fit
+pub au4-fits : (s : Shape) → s ≡ au4 → Fit s
+au4-fits s e = rw e au4-fit
 
 -- ---- places
 

@@ -1,5 +1,5 @@
 -- `unit_source::unit_source` meets its contract: the shape is that of AU-4. Assumes nothing.
-use Rattle.shape.proofs.Offsets.{fits-au4}
+use Rattle.shape.proofs.Offsets.{au4-fits}
 use Rattle.unit_source.proofs.Answers.{makes-at}
 use borrow.Author.Needs.{needs}
 use Rattle.unit_source.proofs.unit_source.Statement.{statement}
@@ -9,7 +9,7 @@ au4-requires : tie.Need-au4-requires
 au4-requires c κs = search needs
 
 make-requires : tie.Need-make-requires
-make-requires c κs = search fits-au4
+make-requires c κs = search au4-fits
 
 same-length : tie.Need-same-length
 same-length c = search needs

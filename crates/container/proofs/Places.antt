@@ -1,0 +1,126 @@
+-- Where the bytes of a container lie, for any overhead and any number of columns. Assumes nothing.
+use mathlib.Core.Path.{_≡_, refl, sym, ap, ap₂, _∙_}
+use mathlib.Core.List.{List, [], _∷_, _++_}
+use Prim.Native.Nat.{ℕ, zero, suc, _+_, _-_, _*_, _<_}
+use native.Mathlib.Nat.{zero-mul, suc-mul}
+use native.Mathlib.Omega.{arith}
+use lib.ListN.{length, take, drop, getD, length-append, length-drop, take-append-drop}
+use lib.Seq.{length-take-le, take-at, drop-at, getD-append-add}
+use lib.Bits.{bitXor, xor-comm}
+use Rattle.parity.specs.Parity.{parityOf}
+use Rattle.laws.proofs.Bits.{xor-assoc}
+use Rattle.parity.proofs.Laws.{parity-append}
+use Rattle.container.specs.Container.{rowsOf, headsOf, stripOf, containerOf, overheadIn, payloadIn, payloadSize}
+
+nothing : (l : List ℕ) → length l ≡ 0 → l ≡ []
+nothing [] h = refl
+nothing (x ∷ l) h = absurd (omega arith)
+
+-- one row and the rest: what each induction below rests on
+module _ (w n : ℕ) (payload : List ℕ) (h : length payload ≡ suc n * w) where
+  first-row : length (take w payload) ≡ w
+  first-row = length-take-le w payload (omega (arith, suc-mul n w))
+
+  other-rows : length (drop w payload) ≡ n * w
+  other-rows = length-drop w payload ∙ omega (arith, suc-mul n w)
+
+-- as many bytes as rows of one overhead byte and w of payload
+pub length-rows : (w : ℕ) (overhead payload : List ℕ) → length payload ≡ length overhead * w → length (rowsOf w overhead payload) ≡ length overhead * suc w
+unfolding rowsOf
+length-rows w [] payload h = sym (zero-mul (suc w))
+length-rows w (p ∷ overhead) payload h =
+    let a = first-row w (length overhead) payload h in
+    let b = length-rows w overhead (drop w payload) (other-rows w (length overhead) payload h) in
+    let c = length-append (take w payload) (rowsOf w overhead (drop w payload)) in
+    omega (arith, suc-mul (length overhead) (suc w))
+
+-- the payload comes back
+pub strip-rows : (w : ℕ) (overhead payload : List ℕ) → length payload ≡ length overhead * w → stripOf w (length overhead) (rowsOf w overhead payload) ≡ payload
+unfolding rowsOf stripOf
+strip-rows w [] payload h = sym (nothing payload (h ∙ zero-mul w))
+strip-rows w (p ∷ overhead) payload h =
+    let a = first-row w (length overhead) payload h in
+    let rest = rowsOf w overhead (drop w payload) in
+    ap₂ (λ (x y : List ℕ). x ++ stripOf w (length overhead) y) (take-at (take w payload) rest w a) (drop-at (take w payload) rest w a)
+    ∙ ap (λ (x : List ℕ). take w payload ++ x) (strip-rows w overhead (drop w payload) (other-rows w (length overhead) payload h))
+    ∙ take-append-drop w payload
+
+-- the overhead comes back
+pub heads-rows : (w : ℕ) (overhead payload : List ℕ) → length payload ≡ length overhead * w → headsOf w (length overhead) (rowsOf w overhead payload) ≡ overhead
+unfolding rowsOf headsOf
+heads-rows w [] payload h = refl
+heads-rows w (p ∷ overhead) payload h =
+    let rest = rowsOf w overhead (drop w payload) in
+    ap (λ (x : List ℕ). p ∷ headsOf w (length overhead) x) (drop-at (take w payload) rest w (first-row w (length overhead) payload h))
+    ∙ ap (λ (x : List ℕ). p ∷ x) (heads-rows w overhead (drop w payload) (other-rows w (length overhead) payload h))
+
+-- and a container is its overhead and its payload
+pub rows-parts : (w n : ℕ) (c : List ℕ) → length c ≡ n * suc w → rowsOf w (headsOf w n c) (stripOf w n c) ≡ c
+unfolding rowsOf headsOf stripOf
+rows-parts w zero c h = sym (nothing c (h ∙ zero-mul (suc w)))
+rows-parts w (suc n) [] h = absurd (omega (arith, suc-mul n (suc w)))
+rows-parts w (suc n) (b ∷ c) h =
+    let l : length (take w c) ≡ w = length-take-le w c (omega (arith, suc-mul n (suc w))) in
+    let m : length (drop w c) ≡ n * suc w = length-drop w c ∙ omega (arith, suc-mul n (suc w)) in
+    let rest = stripOf w n (drop w c) in
+    ap₂ (λ (x y : List ℕ). b ∷ (x ++ rowsOf w (headsOf w n (drop w c)) y)) (take-at (take w c) rest w l) (drop-at (take w c) rest w l)
+    ∙ ap (λ (x : List ℕ). b ∷ (take w c ++ x)) (rows-parts w n (drop w c) m)
+    ∙ ap (λ (x : List ℕ). b ∷ x) (take-append-drop w c)
+
+-- the overhead byte of row r
+pub getD-rows : (w : ℕ) (overhead payload : List ℕ) (r : ℕ) → length payload ≡ length overhead * w → r < length overhead → getD (rowsOf w overhead payload) (r * suc w) 0 ≡ getD overhead r 0
+unfolding rowsOf
+getD-rows w [] payload r h k = absurd (omega arith)
+getD-rows w (p ∷ overhead) payload zero h k = rw (zero-mul (suc w))
+getD-rows w (p ∷ overhead) payload (suc r) h k =
+    let a = first-row w (length overhead) payload h in
+    let rest = rowsOf w overhead (drop w payload) in
+    let n : suc r * suc w ≡ suc (length (take w payload) + r * suc w) = omega (arith, suc-mul r (suc w)) in
+    ap (λ (j : ℕ). getD (p ∷ (take w payload ++ rest)) j 0) n
+    ∙ getD-append-add (take w payload) rest (r * suc w) 0
+    ∙ getD-rows w overhead (drop w payload) r (other-rows w (length overhead) payload h) (omega arith)
+
+-- the parity of a container is that of its overhead and that of its payload
+pub parity-rows : (w : ℕ) (overhead payload : List ℕ) → length payload ≡ length overhead * w → parityOf (rowsOf w overhead payload) ≡ bitXor (parityOf overhead) (parityOf payload)
+unfolding rowsOf parityOf
+parity-rows w [] payload h = ap parityOf (sym (nothing payload (h ∙ zero-mul w)))
+parity-rows w (p ∷ overhead) payload h =
+    let t = parityOf (take w payload) in
+    let d = parityOf (drop w payload) in
+    let o = parityOf overhead in
+    ap (bitXor p)
+    (parity-append (take w payload) (rowsOf w overhead (drop w payload))
+    ∙ ap (bitXor t) (parity-rows w overhead (drop w payload) (other-rows w (length overhead) payload h))
+    ∙ sym (xor-assoc t o d)
+    ∙ ap (λ (x : ℕ). bitXor x d) (xor-comm t o) ∙ xor-assoc o t d)
+    ∙ sym (xor-assoc p o (bitXor t d))
+    ∙ ap (bitXor (bitXor p o)) (sym (parity-append (take w payload) (drop w payload)) ∙ ap parityOf (take-append-drop w payload))
+
+-- the same of a container: nine overhead bytes, and a payload of the right length
+module _ (columns : ℕ) (overhead payload : List ℕ) (some : 0 < columns) (nine : length overhead ≡ 9) (full : length payload ≡ payloadSize columns) where
+  rows-full : length payload ≡ length overhead * (columns - 1)
+  rows-full = rw nine full
+
+  one-more : suc (columns - 1) ≡ columns
+  one-more = omega arith
+
+  pub length-container : length (containerOf columns overhead payload) ≡ 9 * columns
+  length-container = length-rows (columns - 1) overhead payload rows-full ∙ rw (nine, one-more)
+
+  pub payload-container : payloadIn columns (containerOf columns overhead payload) ≡ payload
+  payload-container = rw nine at (strip-rows (columns - 1) overhead payload rows-full)
+
+  pub overhead-container : overheadIn columns (containerOf columns overhead payload) ≡ overhead
+  overhead-container = rw nine at (heads-rows (columns - 1) overhead payload rows-full)
+
+  pub getD-container : (r : ℕ) → r < 9 → getD (containerOf columns overhead payload) (r * columns) 0 ≡ getD overhead r 0
+  getD-container r h = rw one-more at (getD-rows (columns - 1) overhead payload r rows-full (rw nine h))
+
+  pub parity-container : parityOf (containerOf columns overhead payload) ≡ bitXor (parityOf overhead) (parityOf payload)
+  parity-container = parity-rows (columns - 1) overhead payload rows-full
+
+-- every list of the right length is the container of its parts
+pub container-parts : (columns : ℕ) (c : List ℕ) → 0 < columns → length c ≡ 9 * columns → containerOf columns (overheadIn columns c) (payloadIn columns c) ≡ c
+container-parts columns c some full =
+    let one-more : suc (columns - 1) ≡ columns = omega arith in
+    rows-parts (columns - 1) 9 c (rw one-more full)

@@ -1,0 +1,126 @@
+-- What a call of the source has to show at each of its ends, and what a call with nothing wrong has shown. Assumes nothing.
+use mathlib.Core.Path.{_≡_, _∙_}
+use mathlib.Core.Bool.{Bool, true, false, not}
+use mathlib.Core.List.{List, append-nil}
+use Prim.Native.Nat.{ℕ, _+_, _*_, _-_, _%_, _<_, _≤_}
+use native.Mathlib.Omega.{arith}
+use lib.Dec.{eqb, ltb}
+use lib.ListN.{length}
+use borrow.Author.Tests.{lt-ltb, le-ltb, eq-eqb, ne-eqb, eqb-true, not-false, ltb-false}
+use Rattle.parity.specs.Parity.{parityOf}
+use Rattle.settings.specs.Settings.{labelRefused, traceRefused}
+use Rattle.refusals.specs.Refusals.{due, answerOf}
+use Rattle.refusals.specs.declared.Refusal.{Refusal}
+use Rattle.refusals.specs.declared.Refusal.the-variants as wrong
+use Rattle.refusals.specs.declared.Answer.{Answer}
+use Rattle.refusals.specs.declared.Answer.the-variants.{Done, Refused}
+use Rattle.refusals.proofs.Wrong.{due-none, none-wrong, outcome-done, outcome-refused}
+use Rattle.shape.specs.Shape.{Fit}
+use Rattle.shape.specs.declared.Shape.{Shape}
+use Rattle.container.specs.Container.{payloadSize, rowsOf}
+use Rattle.path_source.specs.Overhead.{overheadOf}
+use Rattle.path_source.specs.Source.{sendFaults, containerSent, stateAfter, containerSource, Sends}
+use Rattle.path_source.specs.declared.State.{State}
+use Rattle.path_source.specs.declared.Given.{Given}
+use Rattle.path_source.specs.declared.Sent.{Sent}
+
+-- no row of the table applies
+pub record Sendable (s : Shape) (place label : ℕ) (trace : List ℕ) (payload container violations : ℕ) : Type 0 where
+  pub place-is : place ≤ 15
+  pub label-is : labelRefused label ≡ false
+  pub trace-is : traceRefused trace ≡ false
+  pub payload-is : payload ≡ payloadSize (s .columns)
+  pub container-is : container ≡ s .size
+  pub violations-is : violations ≤ 8
+
+-- ---- the answer, by the tests that led to it
+
+module _ (s : Shape) (place label : ℕ) (trace : List ℕ) (payload container violations : ℕ) where
+  abbrev faults : List Refusal
+  faults = sendFaults s place label trace payload container violations
+
+  pub answer-state : 15 < place → Refused wrong.State ≡ answerOf faults
+  unfolding sendFaults due answerOf
+  answer-state h = rw (lt-ltb 15 place h)
+
+  module _ (in-range : place ≤ 15) (l : Bool) (is-l : l ≡ labelRefused label) where
+    pub answer-label : l ≡ true → Refused wrong.Label ≡ answerOf faults
+    unfolding sendFaults due answerOf
+    answer-label e = rw (le-ltb 15 place in-range, ← is-l, e)
+
+    module _ (l-no : l ≡ false) (t : Bool) (is-t : t ≡ traceRefused trace) where
+      pub answer-trace : t ≡ true → Refused wrong.Trace ≡ answerOf faults
+      unfolding sendFaults due answerOf
+      answer-trace e = rw (le-ltb 15 place in-range, ← is-l, l-no, ← is-t, e)
+
+      module _ (t-no : t ≡ false) where
+        pub answer-payload : (payload ≡ 9 * (s .columns - 1) → ⊥) → Refused wrong.Payload ≡ answerOf faults
+        unfolding sendFaults due answerOf
+        answer-payload h = rw (le-ltb 15 place in-range, ← is-l, l-no, ← is-t, t-no, ne-eqb payload (9 * (s .columns - 1)) h)
+
+        module _ (full : payload ≡ 9 * (s .columns - 1)) where
+          pub answer-container : (container ≡ s .size → ⊥) → Refused wrong.Container ≡ answerOf faults
+          unfolding sendFaults due answerOf
+          answer-container h =
+              rw (le-ltb 15 place in-range, ← is-l, l-no, ← is-t, t-no, eq-eqb payload (9 * (s .columns - 1)) full, ne-eqb container (s .size) h)
+
+          module _ (room : container ≡ s .size) where
+            pub answer-violations : 8 < violations → Refused wrong.Violations ≡ answerOf faults
+            unfolding sendFaults due answerOf
+            answer-violations h =
+                rw (le-ltb 15 place in-range, ← is-l, l-no, ← is-t, t-no, eq-eqb payload (9 * (s .columns - 1)) full, eq-eqb container (s .size) room, lt-ltb 8 violations h)
+
+            pub answer-done : violations ≤ 8 → Done ≡ answerOf faults
+            unfolding sendFaults due answerOf
+            answer-done h =
+                rw (le-ltb 15 place in-range, ← is-l, l-no, ← is-t, t-no, eq-eqb payload (9 * (s .columns - 1)) full, eq-eqb container (s .size) room, le-ltb 8 violations h)
+
+  -- a call that is done had nothing wrong with it
+  pub sendable : (a : Answer) → a ≡ answerOf faults → a ≡ Done → Sendable s place label trace payload container violations
+  unfolding sendFaults
+  sendable a e d =
+      let p1 = due-none (ltb 15 place) wrong.State _ (none-wrong faults cc) in
+      let p2 = due-none (labelRefused label) wrong.Label _ (p1 .1) in
+      let p3 = due-none (traceRefused trace) wrong.Trace _ (p2 .1) in
+      let p4 = due-none (not (eqb payload (payloadSize (s .columns)))) wrong.Payload _ (p3 .1) in
+      let p5 = due-none (not (eqb container (s .size))) wrong.Container _ (p4 .1) in
+      let p6 = due-none (ltb 8 violations) wrong.Violations _ (append-nil _ ∙ p5 .1) in
+      record {
+        place-is = ltb-false 15 place (p1 .0);
+        label-is = p2 .0;
+        trace-is = p3 .0;
+        payload-is = eqb-true payload (payloadSize (s .columns)) (not-false (eqb payload (payloadSize (s .columns))) (p4 .0));
+        container-is = eqb-true container (s .size) (not-false (eqb container (s .size)) (p5 .0));
+        violations-is = ltb-false 8 violations (p6 .0);
+      }
+
+  -- so that `rows` has the lengths it asks for
+  pub rows-asks : Fit s → Sendable s place label trace payload container violations → (payload ≡ 9 * (s .columns - 1)) × (container ≡ payload + 9)
+  rows-asks f a = (a .payload-is, omega (arith, f .nine, f .some, f .two, a .payload-is, a .container-is))
+
+-- ---- the ends of `send`
+
+module _ (s : Shape) (state : State) (g : Given) (trace payload before : List ℕ) (a : Answer) (is : a ≡ answerOf (sendFaults s (state .place) (g .label) trace (length payload) (length before) (g .violations))) where
+  -- refused: the state and the container as they were
+  pub send-refused : (x : Refusal) → a ≡ Refused x → Sends s state g trace payload before (record { answer = Refused x; state = state }) before
+  unfolding containerSource
+  send-refused x e =
+      rw (outcome-refused (sendFaults s (state .place) (g .label) trace (length payload) (length before) (g .violations)) _ _ x cc)
+
+  -- sent: what the calls in it show, put together
+  pub send-done :
+      (overhead after : List ℕ) (parity : ℕ) →
+      a ≡ Done
+      → overhead ≡ overheadOf state g trace
+      → after ≡ rowsOf (s .columns - 1) overhead payload
+      → parity ≡ parityOf after
+      → Sends s state g trace payload before (record { answer = Done; state = record { place = (state .place + 1) % 16; parity = parity } }) after
+  unfolding containerSource stateAfter containerSent
+  send-done overhead after parity d o r p =
+      rw (outcome-done (sendFaults s (state .place) (g .label) trace (length payload) (length before) (g .violations)) _ _ cc, p, r, o)
+
+-- ---- the end of `container_source`
+
+-- one shape for another
+pub send-as : (s t : Shape) (state : State) (g : Given) (trace payload before : List ℕ) (r : Sent) (after : List ℕ) → s ≡ t → Sends s state g trace payload before r after → Sends t state g trace payload before r after
+send-as s t state g trace payload before r after e h = rw e at h

@@ -1,0 +1,65 @@
+-- `path_source::send` meets its contract: a call that is refused leaves all as it was, and any other has what `overhead` and `rows` ask for. Assumes nothing.
+use native.Mathlib.Omega.{arith}
+use lib.ListN.{length}
+use Rattle.path_source.proofs.SourceLaws.{send-refused, send-done, Sendable, sendable, rows-asks}
+use borrow.Author.Needs.{needs}
+use Rattle.path_source.proofs.send.Statement.{statement}
+use Rattle.path_source.proofs.send.Tie as tie
+
+answer-requires : tie.Need-answer-requires
+answer-requires c κs = search needs
+
+enum-known-x : tie.Need-enum-known-x
+enum-known-x c = search needs
+
+returns : tie.Need-returns
+returns c = search send-refused
+
+enum-told : tie.Need-enum-told
+enum-told c = search needs
+
+-- nothing is wrong with the call
+fine :
+    (c : tie.After-enum-told) →
+    let a = c .before .before .before .before .before .before .args in
+    Sendable (a .shape) (a .s .place) (a .g .label) (a .characters .now) (length (a .payload .now)) (length (a .container .now)) (a .g .violations)
+fine c = search sendable
+
+overhead-requires : tie.Need-overhead-requires
+overhead-requires c κs = (fine c .place-is, fine c .violations-is)
+
+sub-rows : tie.Need-sub-rows
+sub-rows c = search needs
+
+rows-requires : tie.Need-rows-requires
+rows-requires c κs = rows-asks _ _ _ _ _ _ _ (search needs) (fine (c .before .before .before))
+
+parity-requires : tie.Need-parity-requires
+parity-requires c κs = search needs
+
+add-t21 : tie.Need-add-t21
+add-t21 c =
+    let f = fine (c .before .before .before .before .before .before .before .before .before) in
+    omega arith
+
+same-length : tie.Need-same-length
+same-length c = search needs
+
+returns-2 : tie.Need-returns-2
+returns-2 c = search send-done
+
+pub send-spec : {M : Type 1} → statement M
+send-spec =
+    tie.close
+    (tie.spec
+    answer-requires
+    enum-known-x
+    returns
+    enum-told
+    overhead-requires
+    sub-rows
+    rows-requires
+    parity-requires
+    add-t21
+    same-length
+    returns-2)

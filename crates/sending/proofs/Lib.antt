@@ -1,0 +1,4 @@
+pub mod Refused
+pub mod Payload
+pub mod Sequence
+pub mod Examples
