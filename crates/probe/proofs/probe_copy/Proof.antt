@@ -1,5 +1,4 @@
 -- `probe::probe_copy` meets its contract: where the lengths differ nothing is written, and no is answered. Assumes nothing.
-use mathlib.Core.Path.{refl, sym}
 use borrow.Author.Tests.{ne-eqb, eq-eqb}
 use borrow.Author.Needs.{needs}
 use Rattle.probe.proofs.probe_copy.Statement.{statement}

@@ -1,0 +1,47 @@
+-- What the probes of the sources have to show, of what the calls have shown. Assumes nothing.
+use mathlib.Core.Path.{_≡_, ap, _∙_}
+use mathlib.Core.Bool.{Bool}
+use mathlib.Core.List.{List}
+use Prim.Native.Nat.{ℕ, _+_, _*_}
+use Rattle.refusals.specs.Refusals.{answerNumber}
+use Rattle.refusals.specs.declared.Answer.{Answer}
+use Rattle.shape.specs.declared.Shape.{Shape}
+use Rattle.shape.specs.declared.Adjustment.{Adjustment}
+use Rattle.container.specs.Payload.{payloadCall, Hands}
+use Rattle.path_source.specs.Source as paths
+use Rattle.path_source.specs.declared.State as path
+use Rattle.path_source.specs.declared.Given.{Given}
+use Rattle.path_source.specs.declared.Sent.{Sent}
+use Rattle.unit_source.specs.Source as units
+use Rattle.unit_source.specs.declared.State as unit
+use Rattle.unit_source.specs.declared.Made.{Made}
+use Rattle.probe.specs.Probe.{packedPath, packedSent, packedUnit, packedMade, adjustmentOf, Probes, probedSent, probedMade, probedHanded}
+
+pub path-packed : (s t : path.State) (n : ℕ) → s ≡ t → n ≡ packedPath s → n ≡ packedPath t
+path-packed s t n e p = p ∙ ap packedPath e
+
+pub unit-packed : (s t : unit.State) (n : ℕ) → s ≡ t → n ≡ packedUnit s → n ≡ packedUnit t
+unit-packed s t n e p = p ∙ ap packedUnit e
+
+pub sent-packed : (x : Sent) (n p : ℕ) → n ≡ answerNumber (x .answer) → p ≡ packedPath (x .state) → n * 65536 + p ≡ packedSent x
+unfolding packedSent
+sent-packed x n p e f = rw (e, f)
+
+pub made-packed : (x : Made) (n p : ℕ) → n ≡ answerNumber (x .answer) → p ≡ packedUnit (x .state) → n * 4294967296 + x .ended * 16777216 + p ≡ packedMade x
+unfolding packedMade
+made-packed x n p e f = rw (e, f)
+
+pub container-probed : (s : Shape) (state : path.State) (g : Given) (trace payload before after : List ℕ) (m : Sent) (n : ℕ)
+    → paths.Sends s state g trace payload before m after → n ≡ packedSent m
+    → Probes n after (probedSent (paths.containerSource s state g trace payload before))
+container-probed s state g trace payload before after m n e p = rw p (ap probedSent e)
+
+pub unit-probed : (s : Shape) (state : unit.State) (asked : ℕ) (a : Adjustment) (current next before after : List ℕ) (m : Made) (n : ℕ)
+    → a ≡ adjustmentOf asked → units.Makes s state a current next before m after → n ≡ packedMade m
+    → Probes n after (probedMade (units.unitSource s state (adjustmentOf asked) current next before))
+unit-probed s state asked a current next before after m n h e p = rw (← h, p) (ap probedMade e)
+
+pub payload-probed : (s : Shape) (container : List ℕ) (ais : Bool) (before after : List ℕ) (a : Answer) (n : ℕ)
+    → Hands s container ais before a after → n ≡ answerNumber a
+    → Probes n after (probedHanded (payloadCall s container ais before))
+payload-probed s container ais before after a n e p = rw p (ap probedHanded e)

@@ -1,0 +1,28 @@
+-- `probe::pack_sent` meets its contract: the number and the state. Assumes nothing.
+use Rattle.probe.proofs.Packs.{sent-packed}
+use borrow.Author.Needs.{needs}
+use Rattle.probe.proofs.pack_sent.Statement.{statement}
+use Rattle.probe.proofs.pack_sent.Tie as tie
+
+number-requires : tie.Need-number-requires
+number-requires c κs = search needs
+
+cast-result : tie.Need-cast-result
+cast-result c = search needs
+
+mul-result : tie.Need-mul-result
+mul-result c = search needs
+
+pack-path-requires : tie.Need-pack-path-requires
+pack-path-requires c κs = search needs
+
+add-result : tie.Need-add-result
+add-result c = search needs
+
+returns : tie.Need-returns
+returns c = search sent-packed
+
+pub pack-sent-spec : {M : Type 1} → statement M
+pack-sent-spec =
+    tie.close
+    (tie.spec number-requires cast-result mul-result pack-path-requires add-result returns)

@@ -1,0 +1,17 @@
+-- `probe::probe_fresh_container` meets its contract: the fresh state. Assumes nothing.
+use Rattle.probe.proofs.Packs.{path-packed}
+use borrow.Author.Needs.{needs}
+use Rattle.probe.proofs.probe_fresh_container.Statement.{statement}
+use Rattle.probe.proofs.probe_fresh_container.Tie as tie
+
+fresh-requires : tie.Need-fresh-requires
+fresh-requires c κs = search needs
+
+pack-path-requires : tie.Need-pack-path-requires
+pack-path-requires c κs = search needs
+
+returns : tie.Need-returns
+returns c = search path-packed
+
+pub probe-fresh-container-spec : {M : Type 1} → statement M
+probe-fresh-container-spec = tie.close (tie.spec fresh-requires pack-path-requires returns)
