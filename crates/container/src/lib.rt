@@ -36,17 +36,17 @@ fn strip(width: usize, container: &[u8], payload: &mut [u8])
     requires { ⌜ (length (now payload) ≡ 9 * width) × (length (now container) ≡ length (now payload) + 9) ⌝ }
     ensures { λ _. ⌜ now (payload .exit) ≡ stripOf width 9 (now (container .entry)) ⌝ }
 {
-    let mut row: usize = 0;
+    let mut done: usize = 0;
     let mut from: usize = 0;
     let mut to: usize = 0;
-    while row < 9 {
+    while done < 9 {
         let start = from + 1;
         let end = start + width;
         let next = to + width;
         copier::copy(&container[start..end], &mut payload[to..next]);
         from = end;
         to = next;
-        row += 1;
+        done += 1;
     }
 }
 
@@ -55,10 +55,11 @@ fn payload_answer(shape: Shape, container: usize, payload: usize) -> Answer
     requires { ⌜ Fit shape ⌝ }
     ensures { λ r. ⌜ r ≡ answerOf (payloadFaults shape container payload) ⌝ }
 {
+    let full = 9 * (shape.columns - 1);
     if container != shape.size {
         return Answer::Refused(Refusal::Container);
     }
-    if payload != 9 * (shape.columns - 1) {
+    if payload != full {
         return Answer::Refused(Refusal::Payload);
     }
     Answer::Done

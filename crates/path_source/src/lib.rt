@@ -96,6 +96,7 @@ fn answer(
     requires { ⌜ Fit shape ⌝ }
     ensures { λ r. ⌜ r ≡ answerOf (sendFaults shape place label characters payload container violations) ⌝ }
 {
+    let full = 9 * (shape.columns - 1);
     if 15 < place {
         return Answer::Refused(Refusal::State);
     }
@@ -105,7 +106,7 @@ fn answer(
     if settings::trace_refused(&characters) {
         return Answer::Refused(Refusal::Trace);
     }
-    if payload != 9 * (shape.columns - 1) {
+    if payload != full {
         return Answer::Refused(Refusal::Payload);
     }
     if container != shape.size {
@@ -150,12 +151,10 @@ fn send(
     let o = overhead(s, g, t);
     container::rows(shape.columns - 1, o, payload, container);
     let parity = parity::parity(container);
+    let place = (s.place + 1) % 16;
     Sent {
         answer: Answer::Done,
-        state: State {
-            place: (s.place + 1) % 16,
-            parity,
-        },
+        state: State { place, parity },
     }
 }
 

@@ -4,14 +4,14 @@ use borrow.Author.Needs.{needs}
 use Rattle.container.proofs.payload_answer.Statement.{statement}
 use Rattle.container.proofs.payload_answer.Tie as tie
 
+sub-full : tie.Need-sub-full
+sub-full c = search needs
+
+mul-full : tie.Need-mul-full
+mul-full c = search needs
+
 returns : tie.Need-returns
 returns c = search answer-container
-
-sub-if2 : tie.Need-sub-if2
-sub-if2 c = search needs
-
-mul-if2 : tie.Need-mul-if2
-mul-if2 c = search needs
 
 returns-2 : tie.Need-returns-2
 returns-2 c = search answer-payload
@@ -20,4 +20,4 @@ returns-3 : tie.Need-returns-3
 returns-3 c = search answer-done
 
 pub payload-answer-spec : {M : Type 1} → statement M
-payload-answer-spec = tie.close (tie.spec returns sub-if2 mul-if2 returns-2 returns-3)
+payload-answer-spec = tie.close (tie.spec sub-full mul-full returns returns-2 returns-3)

@@ -4,7 +4,7 @@ use mathlib.Core.List.{_++_}
 use Prim.Native.Nat.{_+_, _*_, _≤_, _-_}
 use native.Mathlib.Omega.{arith}
 use borrow.Author.Needs.{needs}
-use lib.ListN.{length, take, drop, set, getD, length-set}
+use lib.ListN.{length, take, drop}
 use Rattle.copier.proofs.Parts.{parts-alike}
 use Rattle.container.specs.Container.{rowsOf}
 use Rattle.container.proofs.RowLaws.{one-row, no-row, rows-length, rows-turn, rows-end}
@@ -20,7 +20,7 @@ abbrev μ-loop : tie.MeasureT-loop
 -- a row is left, so that there is room for one
 room : (c : tie.In-loop Inv-loop μ-loop) → (c .before .loop .to + 1 + c .before .before .before .before .args .width ≤ length (c .before .loop .container)) × (c .before .loop .from + c .before .before .before .before .args .width ≤ length (c .before .before .before .before .args .payload .now))
 room c =
-    let n = one-row (c .before .loop .row) (c .before .before .before .before .args .width) (c .loop-test .taken) in
+    let n = one-row (c .before .loop .row) (c .before .before .before .before .args .width) (omega arith) in
     omega arith
 
 loop-holds : tie.Need-loop-holds Inv-loop μ-loop
@@ -69,10 +69,8 @@ part-copy-end-2 c =
 
 copy-requires : tie.Need-copy-requires Inv-loop μ-loop
 copy-requires c κs =
-    let l = c .before .before .before in
-    let a = l .before .before .before .args in
     let r = room (c .before .before) in
-    parts-alike (a .payload .now) (set (l .loop .container) (l .loop .to) (getD (a .t2) (l .loop .row) 0)) (l .loop .from) (l .loop .to + 1) (a .width) (r .1) (simp length-set (r .0))
+    search (parts-alike, needs)
 
 add-row : tie.Need-add-row Inv-loop μ-loop
 add-row c = omega arith
@@ -87,7 +85,7 @@ loop-again c =
     let r = room (c .before .before .before .before .before) in
     let q = c .before .before .copy .last .1 .0 in
     let is = c .before .before .copy .ensures in
-    let n = one-row (l .loop .row) (a .width) (c .before .before .before .before .before .loop-test .taken) in (
+    let n = one-row (l .loop .row) (a .width) (omega arith) in (
       omega arith,
       (
         l .loop .inv .1 .0,
@@ -111,7 +109,7 @@ returns : tie.Need-returns Inv-loop μ-loop
 returns c =
     let l = c .before in
     let a = l .before .before .before .args in
-    rows-end (a .width) (a .t2) (a .payload .now) (l .loop .container) (l .loop .container) _ (l .loop .row) (l .loop .from) (l .loop .to) (omega arith) (omega (arith, no-row (l .loop .row) (a .width) (c .loop-test .left))) (l .loop .inv .1 .1 .1 .1 .1)
+    rows-end (a .width) (a .t2) (a .payload .now) (l .loop .container) (l .loop .container) _ (l .loop .row) (l .loop .from) (l .loop .to) (omega arith) (omega (arith, no-row (l .loop .row) (a .width) (omega arith))) (l .loop .inv .1 .1 .1 .1 .1)
 
 pub rows-spec : {M : Type 1} → statement M
 rows-spec =

@@ -12,15 +12,15 @@ use Rattle.container.proofs.strip.Statement.{statement}
 use Rattle.container.proofs.strip.Tie as tie
 
 abbrev Inv-loop : tie.InvT-loop
-Inv-loop width container payload₀ row₀ from₀ to₀ payload row from to = (row ≤ 9) × ((from ≡ to + row) × ((to + (9 - row) * width ≡ length payload₀) × ((length payload ≡ length payload₀) × (take to payload ++ stripOf width (9 - row) (drop from container) ≡ stripOf width 9 container))))
+Inv-loop width container payload₀ done₀ from₀ to₀ payload done from to = (done ≤ 9) × ((from ≡ to + done) × ((to + (9 - done) * width ≡ length payload₀) × ((length payload ≡ length payload₀) × (take to payload ++ stripOf width (9 - done) (drop from container) ≡ stripOf width 9 container))))
 
 abbrev μ-loop : tie.MeasureT-loop
-μ-loop width container payload₀ row₀ from₀ to₀ payload row from to = 9 - row
+μ-loop width container payload₀ done₀ from₀ to₀ payload done from to = 9 - done
 
 -- a row is left
 room : (c : tie.In-loop Inv-loop μ-loop) → (c .before .loop .from + 1 + c .before .before .before .before .args .width ≤ length (c .before .before .before .before .args .container .now)) × (c .before .loop .to + c .before .before .before .before .args .width ≤ length (c .before .loop .payload))
 room c =
-    let n = one-row (c .before .loop .row) (c .before .before .before .before .args .width) (c .loop-test .taken) in
+    let n = one-row (c .before .loop .done) (c .before .before .before .before .args .width) (omega arith) in
     omega arith
 
 loop-holds : tie.Need-loop-holds Inv-loop μ-loop
@@ -63,13 +63,11 @@ part-copy-end-2 c =
 
 copy-requires : tie.Need-copy-requires Inv-loop μ-loop
 copy-requires c κs =
-    let l = c .before .before .before in
-    let a = l .before .before .before .args in
     let r = room (c .before .before) in
-    parts-alike (a .container .now) (l .loop .payload) (l .loop .from + 1) (l .loop .to) (a .width) (r .0) (r .1)
+    search (parts-alike, needs)
 
-add-row : tie.Need-add-row Inv-loop μ-loop
-add-row c = omega arith
+add-done : tie.Need-add-done Inv-loop μ-loop
+add-done c = omega arith
 
 loop-less : tie.Need-loop-less Inv-loop μ-loop
 loop-less c = omega arith
@@ -81,9 +79,9 @@ loop-again c =
     let r = room (c .before .before .before .before .before) in
     let q = c .before .before .copy .last .1 .0 in
     let is = c .before .before .copy .ensures in
-    let left = 9 - (l .loop .row + 1) in
-    let n = one-row (l .loop .row) (a .width) (c .before .before .before .before .before .loop-test .taken) in
-    let one : 9 - l .loop .row ≡ suc left = omega arith in (
+    let left = 9 - (l .loop .done + 1) in
+    let n = one-row (l .loop .done) (a .width) (omega arith) in
+    let one : 9 - l .loop .done ≡ suc left = omega arith in (
       omega arith,
       (
         omega arith,
@@ -104,8 +102,8 @@ returns : tie.Need-returns Inv-loop μ-loop
 returns c =
     let l = c .before in
     let a = l .before .before .before .args in
-    let none : 9 - l .loop .row ≡ 0 = omega arith in
-    strip-end (a .width) (a .container .now) (l .loop .payload) (l .loop .payload) _ 0 (l .loop .from) (l .loop .to) (omega (arith, no-row (l .loop .row) (a .width) (c .loop-test .left))) (rw none at (l .loop .inv .1 .1 .1 .1))
+    let none : 9 - l .loop .done ≡ 0 = omega arith in
+    strip-end (a .width) (a .container .now) (l .loop .payload) (l .loop .payload) _ 0 (l .loop .from) (l .loop .to) (omega (arith, no-row (l .loop .done) (a .width) (omega arith))) (rw none at (l .loop .inv .1 .1 .1 .1))
 
 pub strip-spec : {M : Type 1} → statement M
 strip-spec =
@@ -124,7 +122,7 @@ strip-spec =
     part-copy-start-2
     part-copy-end-2
     copy-requires
-    add-row
+    add-done
     loop-less
     loop-again
     same-length

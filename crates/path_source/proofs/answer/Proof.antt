@@ -4,6 +4,12 @@ use borrow.Author.Needs.{needs}
 use Rattle.path_source.proofs.answer.Statement.{statement}
 use Rattle.path_source.proofs.answer.Tie as tie
 
+sub-full : tie.Need-sub-full
+sub-full c = search needs
+
+mul-full : tie.Need-mul-full
+mul-full c = search needs
+
 returns : tie.Need-returns
 returns c = search answer-state
 
@@ -22,12 +28,6 @@ trace-refused-requires c κs = search needs
 returns-3 : tie.Need-returns-3
 returns-3 c = search answer-trace
 
-sub-if4 : tie.Need-sub-if4
-sub-if4 c = search needs
-
-mul-if4 : tie.Need-mul-if4
-mul-if4 c = search needs
-
 returns-4 : tie.Need-returns-4
 returns-4 c = search answer-payload
 
@@ -44,14 +44,14 @@ pub answer-spec : {M : Type 1} → statement M
 answer-spec =
     tie.close
     (tie.spec
+    sub-full
+    mul-full
     returns
     label-refused-requires
     returns-2
     slice-aggregate-trace-refused
     trace-refused-requires
     returns-3
-    sub-if4
-    mul-if4
     returns-4
     returns-5
     returns-6

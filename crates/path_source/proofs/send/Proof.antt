@@ -37,8 +37,8 @@ rows-requires c κs = rows-asks _ _ _ _ _ _ _ (search needs) (fine (c .before .b
 parity-requires : tie.Need-parity-requires
 parity-requires c κs = search needs
 
-add-t21 : tie.Need-add-t21
-add-t21 c =
+add-place : tie.Need-add-place
+add-place c =
     let f = fine (c .before .before .before .before .before .before .before .before .before) in
     omega arith
 
@@ -60,6 +60,6 @@ send-spec =
     sub-rows
     rows-requires
     parity-requires
-    add-t21
+    add-place
     same-length
     returns-2)
