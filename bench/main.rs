@@ -4,21 +4,18 @@
 //!
 //! Links libcard.a and libprobe.a; built and run by bench/run.
 
+#[path = "../tests/proved.rs"]
+mod proved;
 #[path = "../second/second.rs"]
 mod second;
 
+use proved::c::{card_parity, card_trace_check, card_word_reading, probe_check, probe_container, probe_copy, probe_payload, probe_unit};
 use std::hint::black_box;
 use std::time::Instant;
 
-extern "C" {
-    fn card_parity(bytes: *const u8, length: usize) -> u8;
-    fn card_trace_check(bytes: *const u8, length: usize) -> bool;
-    fn card_word_reading(bytes: *const u8, length: usize) -> u16;
-    fn probe_copy(from: *const u8, length: usize, to: *mut u8, room: usize) -> bool;
-    fn probe_check(bytes: *const u8, length: usize) -> u64;
-}
-
 const CONTAINER: usize = 2349;
+const PAYLOAD: usize = 2340;
+const UNIT: usize = 2358;
 const TURNS: usize = 600;
 
 #[inline(never)]
@@ -147,6 +144,96 @@ fn main() {
                 }),
                 ("second program", &mut || {
                     black_box(second::catalogue_check(black_box(&b)).is_ok());
+                }),
+            ],
+        );
+    }
+    sources();
+}
+
+/// The limit of a container source: one copy of the payload and one parity of the container, by the best plain code.
+#[inline(never)]
+fn copy_and_parity(payload: &[u8], container: &mut [u8]) -> u8 {
+    container[..PAYLOAD].copy_from_slice(payload);
+    plain_parity(container)
+}
+
+fn sources() {
+    let trace = *b"03E5           ";
+    let payload: Vec<u8> = (0..PAYLOAD).map(|i| (i * 29 + 3) as u8).collect();
+    let other: Vec<u8> = (0..CONTAINER).map(|i| (i * 13 + 5) as u8).collect();
+    let room = std::cell::RefCell::new(vec![0u8; UNIT]);
+
+    // calls in turn, so that one in 16 works a check out; both keep their own state
+    let state = std::cell::Cell::new((0u8, 0u8));
+    let second_state = std::cell::Cell::new(second::ContainerSource::fresh());
+    let g = second::Given { label: 0x12, f2: 1, h4: 2, f3: 3, k3: 4, n1: 5, violations: 3, remote: false };
+    show(
+        "container source, calls in turn",
+        1600,
+        &mut [
+            ("proved", &mut || {
+                let (place, parity) = state.get();
+                let mut to = room.borrow_mut();
+                let r = unsafe {
+                    probe_container(
+                        black_box(payload.as_ptr()), PAYLOAD, to.as_mut_ptr(), CONTAINER, &trace,
+                        place, parity, g.label, g.f2, g.h4, g.f3, g.k3, g.n1, g.violations, g.remote,
+                    )
+                };
+                state.set(((r >> 8) as u8, r as u8));
+            }),
+            ("second program", &mut || {
+                let mut to = room.borrow_mut();
+                let r = second::container_source(second_state.get(), black_box(g), &trace, black_box(&payload), &mut to[..CONTAINER]);
+                second_state.set(r.unwrap());
+            }),
+            ("one memcpy and one parity", &mut || {
+                let mut to = room.borrow_mut();
+                black_box(copy_and_parity(black_box(&payload), &mut to[..CONTAINER]));
+            }),
+        ],
+    );
+    for (what, offset, asked) in [
+        ("unit source, plain at offset 0", 0u16, second::Asked::Nothing),
+        ("unit source, plain at offset 1", 1, second::Asked::Nothing),
+        ("unit source, plain at offset 400", 400, second::Asked::Nothing),
+        ("unit source, plain at offset 782", 782, second::Asked::Nothing),
+        ("unit source, increment at 400", 400, second::Asked::Increment),
+        ("unit source, decrement at 400", 400, second::Asked::Decrement),
+    ] {
+        let number = asked as u8;
+        show(
+            what,
+            2000,
+            &mut [
+                ("proved", &mut || {
+                    let mut to = room.borrow_mut();
+                    black_box(unsafe {
+                        probe_unit(black_box(other.as_ptr()), CONTAINER, black_box(other.as_ptr()), CONTAINER, to.as_mut_ptr(), UNIT, black_box(offset), 3, number)
+                    });
+                }),
+                ("second program", &mut || {
+                    let mut to = room.borrow_mut();
+                    let s = second::UnitSource { offset: black_box(offset), wait: 3 };
+                    black_box(second::unit_source(s, asked, black_box(&other), black_box(&other), &mut to).is_ok());
+                }),
+                ("one memcpy", &mut || memcpy(black_box(&other), black_box(&mut room.borrow_mut()[..CONTAINER]))),
+            ],
+        );
+    }
+    for ais in [false, true] {
+        show(
+            if ais { "payload call, AIS" } else { "payload call" },
+            2000,
+            &mut [
+                ("proved", &mut || {
+                    let mut to = room.borrow_mut();
+                    black_box(unsafe { probe_payload(black_box(other.as_ptr()), CONTAINER, to.as_mut_ptr(), PAYLOAD, ais) });
+                }),
+                ("second program", &mut || {
+                    let mut to = room.borrow_mut();
+                    black_box(second::payload_call(black_box(&other), ais, &mut to[..PAYLOAD]).is_ok());
                 }),
             ],
         );

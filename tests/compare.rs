@@ -7,104 +7,11 @@
 
 #[path = "../second/second.rs"]
 mod second;
+mod proved;
+mod random;
 mod sources;
 
-/// The proved functions, as C sees them: a slice is a pointer and a length.
-mod proved {
-    mod c {
-        extern "C" {
-            pub fn card_parity(bytes: *const u8, length: usize) -> u8;
-            pub fn card_trace_check(bytes: *const u8, length: usize) -> bool;
-            pub fn card_word_reading(bytes: *const u8, length: usize) -> u16;
-            pub fn probe_copy(from: *const u8, length: usize, to: *mut u8, room: usize) -> bool;
-            pub fn probe_start_byte(characters: *const u8, length: usize) -> u8;
-            pub fn probe_plain_word(value: u16) -> u16;
-            pub fn probe_adjusting_word(places: u16, value: u16) -> u16;
-            pub fn probe_inverted(places: u16, word: u16, offset: u16) -> u32;
-            pub fn probe_check(bytes: *const u8, length: usize) -> u64;
-            pub fn probe_list(bytes: *const u8, length: usize, text: *mut [u8; 15898]) -> usize;
-            pub fn probe_lookup(bytes: *const u8, length: usize, number: u32, trace: *mut [u8; 15]) -> u64;
-        }
-    }
-
-    /// A heap block of exactly these bytes, so that valgrind sees a byte touched outside it.
-    fn lent(b: &[u8]) -> Box<[u8]> {
-        b.into()
-    }
-
-    // Each pointer below is to a live block of the length given with it.
-    pub fn parity(b: &[u8]) -> u8 {
-        let b = lent(b);
-        unsafe { c::card_parity(b.as_ptr(), b.len()) }
-    }
-    pub fn trace_check(b: &[u8]) -> bool {
-        let b = lent(b);
-        unsafe { c::card_trace_check(b.as_ptr(), b.len()) }
-    }
-    pub fn word_reading(b: &[u8]) -> u16 {
-        let b = lent(b);
-        unsafe { c::card_word_reading(b.as_ptr(), b.len()) }
-    }
-    pub fn copy(from: &[u8], to: &mut [u8]) -> bool {
-        let (from, mut room) = (lent(from), lent(to));
-        let said = unsafe { c::probe_copy(from.as_ptr(), from.len(), room.as_mut_ptr(), room.len()) };
-        to.copy_from_slice(&room);
-        said
-    }
-    pub fn start_byte(b: &[u8]) -> u8 {
-        let b = lent(b);
-        unsafe { c::probe_start_byte(b.as_ptr(), b.len()) }
-    }
-    pub fn plain_word(v: u16) -> u16 {
-        unsafe { c::probe_plain_word(v) }
-    }
-    pub fn adjusting_word(places: u16, v: u16) -> u16 {
-        unsafe { c::probe_adjusting_word(places, v) }
-    }
-    pub fn inverted(places: u16, w: u16, v: u16) -> u32 {
-        unsafe { c::probe_inverted(places, w, v) }
-    }
-    pub fn check(b: &[u8]) -> u64 {
-        let b = lent(b);
-        unsafe { c::probe_check(b.as_ptr(), b.len()) }
-    }
-    /// The text, and whether the bytes after it kept their value.
-    pub fn list(b: &[u8]) -> (Vec<u8>, bool) {
-        let b = lent(b);
-        let mut text = Box::new([0xEE; 15898]);
-        let n = unsafe { c::probe_list(b.as_ptr(), b.len(), &mut *text) };
-        (text[..n].to_vec(), text[n..].iter().all(|x| *x == 0xEE))
-    }
-    pub fn lookup(b: &[u8], number: u32) -> (u64, [u8; 15]) {
-        let b = lent(b);
-        let mut trace = Box::new([0xEE; 15]);
-        let found = unsafe { c::probe_lookup(b.as_ptr(), b.len(), number, &mut *trace) };
-        (found, *trace)
-    }
-}
-
-/// Numbers that look random, the same for the same seed (splitmix64).
-struct Random(u64);
-
-impl Random {
-    fn next(&mut self) -> u64 {
-        self.0 = self.0.wrapping_add(0x9E37_79B9_7F4A_7C15);
-        let mut z = self.0;
-        z = (z ^ (z >> 30)).wrapping_mul(0xBF58_476D_1CE4_E5B9);
-        z = (z ^ (z >> 27)).wrapping_mul(0x94D0_49BB_1331_11EB);
-        z ^ (z >> 31)
-    }
-    /// Below n.
-    fn below(&mut self, n: usize) -> usize {
-        (self.next() % n as u64) as usize
-    }
-    fn byte(&mut self) -> u8 {
-        self.next() as u8
-    }
-    fn bytes(&mut self, n: usize) -> Vec<u8> {
-        (0..n).map(|_| self.byte()).collect()
-    }
-}
+use random::Random;
 
 /// What was compared, and what differed.
 struct Tally {

@@ -8,45 +8,15 @@
 //! A source that starts at 521 or below stays there. One that starts above may
 //! go anywhere, from 782 up to 0 and from 0 down to 782 too.
 
+mod proved;
+mod random;
+
+use random::Random;
 use std::env;
 use std::io::{self, BufWriter, Write};
 use std::process::ExitCode;
 
 const USAGE: &str = "usage: frames OFFSET COUNT SEED [TRACE]  (OFFSET 0 to 782, TRACE 15 characters)";
-
-extern "C" {
-    // The answer: refusal number * 65536 + place * 256 + parity; number 0 where nothing is refused.
-    fn probe_container(
-        payload: *const u8,
-        payload_length: usize,
-        container: *mut u8,
-        container_length: usize,
-        trace: *const [u8; 15],
-        place: u8,
-        parity: u8,
-        label: u8,
-        f2: u8,
-        h4: u8,
-        f3: u8,
-        k3: u8,
-        n1: u8,
-        violations: u8,
-        remote: bool,
-    ) -> u32;
-    // `asked`: 0 nothing, 1 increment, 2 decrement.
-    // The answer: refusal number * 2^32 + ended * 2^24 + offset * 2^8 + wait; number 0 where nothing is refused.
-    fn probe_unit(
-        current: *const u8,
-        current_length: usize,
-        next: *const u8,
-        next_length: usize,
-        unit: *mut u8,
-        unit_length: usize,
-        offset: u16,
-        wait: u8,
-        asked: u8,
-    ) -> u64;
-}
 
 const PAYLOAD_LENGTH: usize = 2340;
 const CONTAINER_LENGTH: usize = 2349;
@@ -60,33 +30,10 @@ const HIGHEST_OFFSET: u16 = 782;
 /// So many units after an adjustment the next may be asked for.
 const FREE: u8 = 3;
 
-/// Numbers without pattern, the same for the same seed (splitmix64).
-struct Numbers(u64);
-
-impl Numbers {
-    fn next(&mut self) -> u64 {
-        self.0 = self.0.wrapping_add(0x9E37_79B9_7F4A_7C15);
-        let mut mixed = self.0;
-        mixed = (mixed ^ (mixed >> 30)).wrapping_mul(0xBF58_476D_1CE4_E5B9);
-        mixed = (mixed ^ (mixed >> 27)).wrapping_mul(0x94D0_49BB_1331_11EB);
-        mixed ^ (mixed >> 31)
-    }
-
-    /// One of 0 to `count` - 1.
-    fn below(&mut self, count: u64) -> u64 {
-        self.next() % count
-    }
-
-    fn byte(&mut self) -> u8 {
-        self.next() as u8
-    }
-}
-
 /// A container source from its fresh state on, and how many containers it made.
 struct Containers {
     trace: [u8; 15],
-    place: u8,
-    parity: u8,
+    state: proved::Path,
     made: usize,
 }
 
@@ -94,47 +41,26 @@ impl Containers {
     fn fresh(trace: [u8; 15]) -> Self {
         Containers {
             trace,
-            place: 0,
-            parity: 0x00,
+            state: proved::fresh().0,
             made: 0,
         }
     }
 
     /// The next container, all that may be chosen for it taken from `numbers`.
-    fn make(&mut self, numbers: &mut Numbers) -> Result<Vec<u8>, String> {
-        let payload: Vec<u8> = (0..PAYLOAD_LENGTH).map(|_| numbers.byte()).collect();
+    fn make(&mut self, numbers: &mut Random) -> Result<Vec<u8>, String> {
+        let payload = numbers.bytes(PAYLOAD_LENGTH);
         let mut container = vec![0xEE; CONTAINER_LENGTH];
-        let label = 1 + numbers.below(254) as u8;
-        let [f2, h4, f3, k3, n1] = [(); 5].map(|()| numbers.byte());
-        let violations = numbers.below(9) as u8;
-        let remote = numbers.below(2) == 1;
-        // SAFETY: each pointer is given with the length of what it points to;
-        // only the container is written, and nothing else refers to it.
-        let answer = unsafe {
-            probe_container(
-                payload.as_ptr(),
-                payload.len(),
-                container.as_mut_ptr(),
-                container.len(),
-                &self.trace,
-                self.place,
-                self.parity,
-                label,
-                f2,
-                h4,
-                f3,
-                k3,
-                n1,
-                violations,
-                remote,
-            )
+        let given = proved::Given {
+            label: 1 + numbers.below(254) as u8,
+            unexamined: [(); 5].map(|()| numbers.byte()),
+            violations: numbers.below(9) as u8,
+            remote: numbers.below(2) == 1,
         };
-        let refusal = answer >> 16;
+        let (refusal, state) = proved::container_source(self.state, given, &self.trace, &payload, &mut container);
         if refusal != 0 {
             return Err(format!("container {} was refused with {refusal}", self.made));
         }
-        self.place = (answer >> 8) as u8;
-        self.parity = answer as u8;
+        self.state = state;
         self.made += 1;
         Ok(container)
     }
@@ -147,7 +73,7 @@ const DECREMENT: (u8, &str) = (2, "decrement");
 
 /// What to ask for: an adjustment in about one of four units that are free for
 /// it. Unless it may go anywhere, none leaves the offsets 0 to 521.
-fn choose(anywhere: bool, offset: u16, wait: u8, numbers: &mut Numbers) -> (u8, &'static str) {
+fn choose(anywhere: bool, offset: u16, wait: u8, numbers: &mut Random) -> (u8, &'static str) {
     if wait < FREE {
         return PLAIN;
     }
@@ -188,7 +114,7 @@ fn arguments() -> Option<Arguments> {
 /// adjust.
 fn units(asked_for: Arguments, output: &mut impl Write) -> Result<(), String> {
     let Arguments { offset, count, seed, trace } = asked_for;
-    let mut numbers = Numbers(seed);
+    let mut numbers = Random(seed);
     let mut containers = Containers::fresh(trace);
     let mut current = containers.make(&mut numbers)?;
     let mut next = containers.make(&mut numbers)?;
@@ -199,30 +125,13 @@ fn units(asked_for: Arguments, output: &mut impl Write) -> Result<(), String> {
     for number in 0..count {
         let (asked, name) = choose(anywhere, offset, wait, &mut numbers);
         let mut unit = vec![0xEE; UNIT_LENGTH];
-        // SAFETY: each pointer is given with the length of what it points to;
-        // only the unit is written, and nothing else refers to it.
-        let answer = unsafe {
-            probe_unit(
-                current.as_ptr(),
-                current.len(),
-                next.as_ptr(),
-                next.len(),
-                unit.as_mut_ptr(),
-                unit.len(),
-                offset,
-                wait,
-                asked,
-            )
-        };
-        let refusal = answer >> 32;
+        let (refusal, ended, after) = proved::unit_source((offset, wait), asked, &current, &next, &mut unit);
         if refusal != 0 {
             return Err(format!(
                 "unit {number}, {name} at offset {offset} with wait {wait}, was refused with {refusal}"
             ));
         }
-        let ended = (answer >> 24) as u8;
-        offset = (answer >> 8) as u16;
-        wait = answer as u8;
+        (offset, wait) = after;
 
         let bytes: String = unit.iter().map(|byte| format!("{byte:02X}")).collect();
         let (h1, h2) = (unit[0], unit[3]);

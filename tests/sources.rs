@@ -1,111 +1,8 @@
 //! The proved sources and the payload call against the second program's: single
 //! calls with any number of faults at once, and long runs.
 
-use super::{hex, second, Random, Tally};
+use super::{hex, proved, second, Random, Tally};
 use second::{Asked, ContainerSource, Given, UnitSource};
-
-/// The proved calls, as the second program gives them: the answer, and what is
-/// left in the lent buffer. Every buffer is a heap block of exactly its length.
-mod proved {
-    use super::{Asked, ContainerSource, Given, UnitSource};
-
-    mod c {
-        extern "C" {
-            pub fn probe_container(
-                payload: *const u8,
-                payload_length: usize,
-                container: *mut u8,
-                container_length: usize,
-                trace: *const [u8; 15],
-                place: u8,
-                parity: u8,
-                label: u8,
-                f2: u8,
-                h4: u8,
-                f3: u8,
-                k3: u8,
-                n1: u8,
-                violations: u8,
-                remote: bool,
-            ) -> u32;
-            pub fn probe_unit(
-                current: *const u8,
-                current_length: usize,
-                next: *const u8,
-                next_length: usize,
-                unit: *mut u8,
-                unit_length: usize,
-                offset: u16,
-                wait: u8,
-                asked: u8,
-            ) -> u64;
-            pub fn probe_payload(container: *const u8, container_length: usize, payload: *mut u8, payload_length: usize, ais: bool) -> u8;
-            pub fn probe_fresh_container() -> u32;
-            pub fn probe_fresh_unit() -> u64;
-        }
-    }
-
-    /// The number of a refusal, 0 for none, and the state after the call.
-    pub type Answered<S> = (u8, S);
-
-    fn container_state(r: u32) -> ContainerSource {
-        ContainerSource { place: (r >> 8) as u8, parity: r as u8 }
-    }
-
-    fn unit_state(r: u64) -> UnitSource {
-        UnitSource { offset: (r >> 8) as u16, wait: r as u8 }
-    }
-
-    pub fn fresh() -> (ContainerSource, UnitSource) {
-        // They take nothing and give numbers.
-        unsafe { (container_state(c::probe_fresh_container()), unit_state(c::probe_fresh_unit())) }
-    }
-
-    // Each pointer below is to a live block of the length given with it.
-    pub fn container_source(s: ContainerSource, g: Given, trace: &[u8; 15], payload: &[u8], container: &mut [u8]) -> Answered<ContainerSource> {
-        let (trace, payload, mut room): (Box<[u8; 15]>, Box<[u8]>, Box<[u8]>) = (Box::new(*trace), payload.into(), (&*container).into());
-        let r = unsafe {
-            c::probe_container(
-                payload.as_ptr(),
-                payload.len(),
-                room.as_mut_ptr(),
-                room.len(),
-                &*trace,
-                s.place,
-                s.parity,
-                g.label,
-                g.f2,
-                g.h4,
-                g.f3,
-                g.k3,
-                g.n1,
-                g.violations,
-                g.remote,
-            )
-        };
-        container.copy_from_slice(&room);
-        ((r >> 16) as u8, container_state(r))
-    }
-
-    pub fn unit_source(s: UnitSource, asked: Asked, current: &[u8], next: &[u8], unit: &mut [u8]) -> (Answered<UnitSource>, u8) {
-        let (current, next, mut room): (Box<[u8]>, Box<[u8]>, Box<[u8]>) = (current.into(), next.into(), (&*unit).into());
-        let number = match asked {
-            Asked::Nothing => 0,
-            Asked::Increment => 1,
-            Asked::Decrement => 2,
-        };
-        let r = unsafe { c::probe_unit(current.as_ptr(), current.len(), next.as_ptr(), next.len(), room.as_mut_ptr(), room.len(), s.offset, s.wait, number) };
-        unit.copy_from_slice(&room);
-        (((r >> 32) as u8, unit_state(r)), (r >> 24) as u8)
-    }
-
-    pub fn payload_call(container: &[u8], ais: bool, payload: &mut [u8]) -> u8 {
-        let (container, mut room): (Box<[u8]>, Box<[u8]>) = (container.into(), (&*payload).into());
-        let r = unsafe { c::probe_payload(container.as_ptr(), container.len(), room.as_mut_ptr(), room.len(), ais) };
-        payload.copy_from_slice(&room);
-        r
-    }
-}
 
 /// How often each answer of a call came, and how often with a fault that stands later in the order.
 struct Met {
@@ -143,6 +40,13 @@ impl Met {
             t.differed += 1;
         }
     }
+}
+
+/// Two buffers, of which a difference is shown by its first place.
+fn same_bytes(t: &mut Tally, what: &str, of: &dyn Fn() -> String, second: &[u8], proved: &[u8]) {
+    let place = second.iter().zip(proved).position(|(a, b)| a != b);
+    let shown = place.map(|p| format!("place {p}: second {:02X}, proved {:02X}", second[p], proved[p]));
+    t.same(what, of, (second.len(), None), (proved.len(), shown));
 }
 
 const CONTAINER: usize = 2349;
@@ -237,10 +141,12 @@ fn one_container(t: &mut Tally, met: &mut Met, s: ContainerSource, g: Given, cha
         Err(number) => (number, s),
     };
     let mut got = before.to_vec();
-    let said = proved::container_source(s, g, characters, payload, &mut got);
+    let to_proved = proved::Given { label: g.label, unexamined: [g.f2, g.h4, g.f3, g.k3, g.n1], violations: g.violations, remote: g.remote };
+    let (number, (place, parity)) = proved::container_source((s.place, s.parity), to_proved, characters, payload, &mut got);
+    let said = (number, ContainerSource { place, parity });
     let of = || format!("{s:?} {g:?} trace {}, payload {} bytes, container {} bytes, faults {faults:?}", hex(characters), payload.len(), before.len());
     t.same("container source", &of, answer, said);
-    t.same("container source's container", &of, &want, &got);
+    same_bytes(t, "container source's container", &of, &want, &got);
     met.note(answer.0, faults);
     (answer.1, want)
 }
@@ -283,17 +189,17 @@ fn unit_calls(r: &mut Random, t: &mut Tally) {
 #[allow(clippy::too_many_arguments)]
 fn one_unit(t: &mut Tally, met: &mut Met, s: UnitSource, asked: Asked, current: &[u8], next: &[u8], before: &[u8], faults: &[u8]) -> (u8, UnitSource) {
     let mut want = before.to_vec();
-    let answer = match second::unit_source(s, asked, current, next, &mut want) {
-        Ok((ended, after)) => ((0, after), ended),
-        Err(number) => ((number, s), 0),
+    let (number, ended, after) = match second::unit_source(s, asked, current, next, &mut want) {
+        Ok((ended, after)) => (0, ended, after),
+        Err(number) => (number, 0, s),
     };
     let mut got = before.to_vec();
-    let said = proved::unit_source(s, asked, current, next, &mut got);
+    let said = proved::unit_source((s.offset, s.wait), asked as u8, current, next, &mut got);
     let of = || format!("{s:?} {asked:?}, containers {} and {} bytes, unit {} bytes, faults {faults:?}", current.len(), next.len(), before.len());
-    t.same("unit source", &of, answer, said);
-    t.same("unit source's unit", &of, &want, &got);
-    met.note(answer.0 .0, faults);
-    (answer.1, answer.0 .1)
+    t.same("unit source", &of, (number, ended, (after.offset, after.wait)), said);
+    same_bytes(t, "unit source's unit", &of, &want, &got);
+    met.note(number, faults);
+    (ended, after)
 }
 
 fn payload_calls(r: &mut Random, t: &mut Tally) {
@@ -312,7 +218,7 @@ fn payload_calls(r: &mut Random, t: &mut Tally) {
         let said = proved::payload_call(&container, ais, &mut got);
         let of = || format!("container {n} bytes, payload {} bytes, AIS {ais}", before.len());
         t.same("payload call", &of, answer, said);
-        t.same("payload call's payload", &of, &want, &got);
+        same_bytes(t, "payload call's payload", &of, &want, &got);
         met.note(answer, &given_faults(order, &f));
     }
     met.check(t);
@@ -320,8 +226,8 @@ fn payload_calls(r: &mut Random, t: &mut Tally) {
 
 /// A path from a fresh start: containers in order, requests in any, refused ones among them; each payload comes back from its container.
 fn runs(r: &mut Random, t: &mut Tally) {
-    let fresh = proved::fresh();
-    t.same("fresh sources", &|| "nothing".into(), (ContainerSource::fresh(), UnitSource::fresh()), fresh);
+    let (container, unit) = (ContainerSource::fresh(), UnitSource::fresh());
+    t.same("fresh sources", &|| "nothing".into(), ((container.place, container.parity), (unit.offset, unit.wait)), proved::fresh());
     for start in [0u16, 1, 521, 522, 781, 782] {
         let mut met = [Met::new("containers of a run", &[]), Met::new("units of a run", &[])];
         let (mut source, characters) = (ContainerSource::fresh(), trace(r, false));
@@ -334,7 +240,8 @@ fn runs(r: &mut Random, t: &mut Tally) {
                 let (after, container) = one_container(t, &mut met[0], source, g, &characters, &payload, &before, &[]);
                 let mut back = r.bytes(PAYLOAD);
                 let said = proved::payload_call(&container, false, &mut back);
-                t.same("payload handed back", &|| format!("{g:?}"), (0, &payload), (said, &back));
+                t.same("payload call", &|| format!("{g:?}"), 0, said);
+                same_bytes(t, "payload handed back", &|| format!("{g:?}"), &payload, &back);
                 source = after;
                 queue.push(container);
             }

@@ -1,0 +1,194 @@
+//! The proved functions, for tests and benchmarks in Rust. `c` has them as C sees
+//! them: a slice is a pointer and a length. The functions beside it lend heap
+//! blocks of exactly the length that is given, so that valgrind sees a byte
+//! touched outside them.
+#![allow(dead_code)] // each program that includes this file uses some of it
+
+pub mod c {
+    extern "C" {
+        pub fn card_parity(bytes: *const u8, length: usize) -> u8;
+        pub fn card_trace_check(bytes: *const u8, length: usize) -> bool;
+        pub fn card_word_reading(bytes: *const u8, length: usize) -> u16;
+        pub fn probe_copy(from: *const u8, length: usize, to: *mut u8, room: usize) -> bool;
+        pub fn probe_start_byte(characters: *const u8, length: usize) -> u8;
+        pub fn probe_plain_word(value: u16) -> u16;
+        pub fn probe_adjusting_word(places: u16, value: u16) -> u16;
+        pub fn probe_inverted(places: u16, word: u16, offset: u16) -> u32;
+        pub fn probe_check(bytes: *const u8, length: usize) -> u64;
+        pub fn probe_list(bytes: *const u8, length: usize, text: *mut [u8; 15898]) -> usize;
+        pub fn probe_lookup(bytes: *const u8, length: usize, number: u32, trace: *mut [u8; 15]) -> u64;
+        /// place * 256 + parity
+        pub fn probe_fresh_container() -> u32;
+        /// refusal number * 65536 + place * 256 + parity; number 0 where nothing is refused
+        pub fn probe_container(
+            payload: *const u8,
+            payload_length: usize,
+            container: *mut u8,
+            container_length: usize,
+            trace: *const [u8; 15],
+            place: u8,
+            parity: u8,
+            label: u8,
+            f2: u8,
+            h4: u8,
+            f3: u8,
+            k3: u8,
+            n1: u8,
+            violations: u8,
+            remote: bool,
+        ) -> u32;
+        /// offset * 2^8 + wait
+        pub fn probe_fresh_unit() -> u64;
+        /// `asked` 0 nothing, 1 increment, 2 decrement;
+        /// refusal number * 2^32 + ended * 2^24 + offset * 2^8 + wait
+        pub fn probe_unit(
+            current: *const u8,
+            current_length: usize,
+            next: *const u8,
+            next_length: usize,
+            unit: *mut u8,
+            unit_length: usize,
+            offset: u16,
+            wait: u8,
+            asked: u8,
+        ) -> u64;
+        /// refusal number
+        pub fn probe_payload(container: *const u8, container_length: usize, payload: *mut u8, payload_length: usize, ais: bool) -> u8;
+    }
+}
+
+fn lent(b: &[u8]) -> Box<[u8]> {
+    b.into()
+}
+
+// Each pointer below is to a live block of the length given with it.
+
+pub fn parity(b: &[u8]) -> u8 {
+    let b = lent(b);
+    unsafe { c::card_parity(b.as_ptr(), b.len()) }
+}
+
+pub fn trace_check(b: &[u8]) -> bool {
+    let b = lent(b);
+    unsafe { c::card_trace_check(b.as_ptr(), b.len()) }
+}
+
+pub fn word_reading(b: &[u8]) -> u16 {
+    let b = lent(b);
+    unsafe { c::card_word_reading(b.as_ptr(), b.len()) }
+}
+
+pub fn copy(from: &[u8], to: &mut [u8]) -> bool {
+    let (from, mut room) = (lent(from), lent(to));
+    let said = unsafe { c::probe_copy(from.as_ptr(), from.len(), room.as_mut_ptr(), room.len()) };
+    to.copy_from_slice(&room);
+    said
+}
+
+pub fn start_byte(b: &[u8]) -> u8 {
+    let b = lent(b);
+    unsafe { c::probe_start_byte(b.as_ptr(), b.len()) }
+}
+
+pub fn plain_word(v: u16) -> u16 {
+    unsafe { c::probe_plain_word(v) }
+}
+
+pub fn adjusting_word(places: u16, v: u16) -> u16 {
+    unsafe { c::probe_adjusting_word(places, v) }
+}
+
+pub fn inverted(places: u16, w: u16, v: u16) -> u32 {
+    unsafe { c::probe_inverted(places, w, v) }
+}
+
+pub fn check(b: &[u8]) -> u64 {
+    let b = lent(b);
+    unsafe { c::probe_check(b.as_ptr(), b.len()) }
+}
+
+/// The text, and whether the bytes after it kept their value.
+pub fn list(b: &[u8]) -> (Vec<u8>, bool) {
+    let b = lent(b);
+    let mut text = Box::new([0xEE; 15898]);
+    let n = unsafe { c::probe_list(b.as_ptr(), b.len(), &mut *text) };
+    (text[..n].to_vec(), text[n..].iter().all(|x| *x == 0xEE))
+}
+
+pub fn lookup(b: &[u8], number: u32) -> (u64, [u8; 15]) {
+    let b = lent(b);
+    let mut trace = Box::new([0xEE; 15]);
+    let found = unsafe { c::probe_lookup(b.as_ptr(), b.len(), number, &mut *trace) };
+    (found, *trace)
+}
+
+/// A container source's place and parity.
+pub type Path = (u8, u8);
+
+/// A unit source's offset and wait.
+pub type Unit = (u16, u8);
+
+/// What a container carries beside trace and payload.
+#[derive(Clone, Copy)]
+pub struct Given {
+    pub label: u8,
+    /// F2 H4 F3 K3 N1
+    pub unexamined: [u8; 5],
+    pub violations: u8,
+    pub remote: bool,
+}
+
+fn path(r: u32) -> Path {
+    ((r >> 8) as u8, r as u8)
+}
+
+fn unit(r: u64) -> Unit {
+    ((r >> 8) as u16, r as u8)
+}
+
+pub fn fresh() -> (Path, Unit) {
+    unsafe { (path(c::probe_fresh_container()), unit(c::probe_fresh_unit())) }
+}
+
+/// The refusal's number, 0 for none, and the state after the call.
+pub fn container_source(s: Path, g: Given, trace: &[u8; 15], payload: &[u8], container: &mut [u8]) -> (u8, Path) {
+    let (trace, payload, mut room) = (Box::new(*trace), lent(payload), lent(container));
+    let [f2, h4, f3, k3, n1] = g.unexamined;
+    let r = unsafe {
+        c::probe_container(
+            payload.as_ptr(),
+            payload.len(),
+            room.as_mut_ptr(),
+            room.len(),
+            &*trace,
+            s.0,
+            s.1,
+            g.label,
+            f2,
+            h4,
+            f3,
+            k3,
+            n1,
+            g.violations,
+            g.remote,
+        )
+    };
+    container.copy_from_slice(&room);
+    ((r >> 16) as u8, path(r))
+}
+
+/// The refusal's number, how many ended, and the state after the call.
+pub fn unit_source(s: Unit, asked: u8, current: &[u8], next: &[u8], to: &mut [u8]) -> (u8, u8, Unit) {
+    let (current, next, mut room) = (lent(current), lent(next), lent(to));
+    let r = unsafe { c::probe_unit(current.as_ptr(), current.len(), next.as_ptr(), next.len(), room.as_mut_ptr(), room.len(), s.0, s.1, asked) };
+    to.copy_from_slice(&room);
+    ((r >> 32) as u8, (r >> 24) as u8, unit(r))
+}
+
+/// The refusal's number.
+pub fn payload_call(container: &[u8], ais: bool, payload: &mut [u8]) -> u8 {
+    let (container, mut room) = (lent(container), lent(payload));
+    let r = unsafe { c::probe_payload(container.as_ptr(), container.len(), room.as_mut_ptr(), room.len(), ais) };
+    payload.copy_from_slice(&room);
+    r
+}
