@@ -2,10 +2,10 @@
 use mathlib.Core.Path.{_≡_, refl, sym, ap, ap₂, _∙_}
 use mathlib.Core.List.{List, [], _∷_, _++_}
 use Prim.Native.Nat.{ℕ, zero, suc, _+_, _-_, _*_, _<_}
-use native.Mathlib.Nat.{zero-mul, suc-mul}
+use native.Mathlib.Nat.{zero-mul, suc-mul, zero-add}
 use native.Mathlib.Omega.{arith}
-use lib.ListN.{length, take, drop, getD, length-append, length-drop, take-append-drop}
-use lib.Seq.{length-take-le, take-at, drop-at, getD-append-add}
+use lib.ListN.{length, take, drop, getD, length-append, length-drop, take-append-drop, List·getD-append}
+use lib.Seq.{length-take-le, take-at, drop-at, getD-append-add, getD-take, getD-drop}
 use lib.Bits.{bitXor, xor-comm}
 use Rattle.parity.specs.Parity.{parityOf}
 use Rattle.laws.proofs.Bits.{xor-assoc}
@@ -80,6 +80,24 @@ getD-rows w (p ∷ overhead) payload (suc r) h k =
     ∙ getD-append-add (take w payload) rest (r * suc w) 0
     ∙ getD-rows w overhead (drop w payload) r (other-rows w (length overhead) payload h) (omega arith)
 
+-- the payload bytes of row r, counted by c from the one after the overhead byte
+pub payload-rows : (w : ℕ) (overhead payload : List ℕ) (r c : ℕ) → length payload ≡ length overhead * w → r < length overhead → c < w → getD (rowsOf w overhead payload) (suc (r * suc w + c)) 0 ≡ getD payload (r * w + c) 0
+unfolding rowsOf
+payload-rows w [] payload r c h k l = absurd (omega arith)
+payload-rows w (p ∷ overhead) payload zero c h k l =
+    let a = first-row w (length overhead) payload h in
+    rw (zero-mul (suc w), zero-mul w, zero-add c) (List·getD-append (take w payload) (rowsOf w overhead (drop w payload)) 0 c (omega arith) ∙ getD-take w payload c 0 l)
+payload-rows w (p ∷ overhead) payload (suc r) c h k l =
+    let a = first-row w (length overhead) payload h in
+    let rest = rowsOf w overhead (drop w payload) in
+    let n : suc r * suc w + c ≡ length (take w payload) + suc (r * suc w + c) = omega (arith, suc-mul r (suc w)) in
+    let m : w + (r * w + c) ≡ suc r * w + c = omega (arith, suc-mul r w) in
+    ap (λ (j : ℕ). getD (take w payload ++ rest) j 0) n
+    ∙ getD-append-add (take w payload) rest (suc (r * suc w + c)) 0
+    ∙ payload-rows w overhead (drop w payload) r c (other-rows w (length overhead) payload h) (omega arith) l
+    ∙ getD-drop w payload (r * w + c) 0
+    ∙ ap (λ (j : ℕ). getD payload j 0) m
+
 -- the parity of a container is that of its overhead and that of its payload
 pub parity-rows : (w : ℕ) (overhead payload : List ℕ) → length payload ≡ length overhead * w → parityOf (rowsOf w overhead payload) ≡ bitXor (parityOf overhead) (parityOf payload)
 unfolding rowsOf parityOf
@@ -115,6 +133,9 @@ module _ (columns : ℕ) (overhead payload : List ℕ) (some : 0 < columns) (nin
 
   pub getD-container : (r : ℕ) → r < 9 → getD (containerOf columns overhead payload) (r * columns) 0 ≡ getD overhead r 0
   getD-container r h = rw one-more at (getD-rows (columns - 1) overhead payload r rows-full (rw nine h))
+
+  pub payload-at : (r c : ℕ) → r < 9 → c < columns - 1 → getD (containerOf columns overhead payload) (suc (r * columns + c)) 0 ≡ getD payload (r * (columns - 1) + c) 0
+  payload-at r c h k = rw one-more at (payload-rows (columns - 1) overhead payload r c rows-full (rw nine h) k)
 
   pub parity-container : parityOf (containerOf columns overhead payload) ≡ bitXor (parityOf overhead) (parityOf payload)
   parity-container = parity-rows (columns - 1) overhead payload rows-full

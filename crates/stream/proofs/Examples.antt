@@ -1,18 +1,35 @@
--- A run in a small shape, computed by the check: units of 12 bytes, containers of 9, with both adjustments, a request that comes too soon, and both ways over the wrap. Assumes nothing.
+-- The first places of AU-4 units at offset 1, and a run in a small shape, computed by the check: units of 12 bytes, containers of 9, with both adjustments, a request that comes too soon, and both ways over the wrap. Assumes nothing.
 use mathlib.Core.Path.{_≡_, refl}
 use mathlib.Core.Bool.{false}
-use mathlib.Core.List.{List, [], _∷_}
+use mathlib.Core.List.{List, [], _∷_, map}
 use Prim.Native.Nat.{ℕ}
 use native.Mathlib.Omega.{arith}
-use lib.ListN.{replicate}
+use lib.ListN.{take, replicate}
 use Rattle.refusals.specs.Refusals.{due, outcome}
-use Rattle.shape.specs.Shape.{Fit, heldCount, upOf, downOf, offsetAfter, runFrom, endedBy}
+use Rattle.shape.specs.Shape.{au4, Fit, heldCount, upOf, downOf, offsetAfter, runFrom, endedBy}
 use Rattle.shape.specs.declared.Shape.{Shape}
 use Rattle.shape.specs.declared.Adjustment.{Adjustment}
 use Rattle.shape.specs.declared.Adjustment.the-variants.{Nothing, Increment, Decrement}
 use Rattle.unit.specs.Unit.{groupOf, headOf, runOf}
 use Rattle.unit_source.specs.Source.{freshState, adjusts, outOfRange, makeFaults, wordSent, unitSent, waitAfter, stateAfter, unitSource}
 use Rattle.stream.specs.Stream.{Sending, isDone, called, after, shareIn, shares, ended, allDone, joined}
+
+-- ---- AU-4
+
+-- the first 13 places of a unit at offset 1, where three bytes of the current container, 11, are still to come before the next, 22
+pub at-one : Adjustment → List ℕ
+at-one a = take 13 (unitSent au4 a 1 (replicate 2349 0x11) (replicate 2349 0x22))
+
+-- H1 Y Y H2 1* 1* H3 H3 H3: "byte offsets 0 to 2 are skipped", or "the three H3 bytes carry container bytes"
+pub heads : map at-one (Nothing ∷ Increment ∷ Decrement ∷ [])
+    ≡ (0x68 ∷ 0x9b ∷ 0x9b ∷ 0x01 ∷ 0xff ∷ 0xff ∷ 0 ∷ 0 ∷ 0 ∷ 0x11 ∷ 0x11 ∷ 0x11 ∷ 0x22 ∷ [])
+    ∷ (0x6a ∷ 0x9b ∷ 0x9b ∷ 0xab ∷ 0xff ∷ 0xff ∷ 0 ∷ 0 ∷ 0 ∷ 0 ∷ 0 ∷ 0 ∷ 0x11 ∷ [])
+    ∷ (0x69 ∷ 0x9b ∷ 0x9b ∷ 0x54 ∷ 0xff ∷ 0xff ∷ 0x11 ∷ 0x11 ∷ 0x11 ∷ 0x22 ∷ 0x22 ∷ 0x22 ∷ 0x22 ∷ [])
+    ∷ []
+unfolding heldCount runFrom groupOf headOf runOf wordSent unitSent at-one
+heads = refl
+
+-- ---- a run
 
 abbrev pub small : Shape
 small = record { step = 1; size = 9; top = 8; columns = 1 }

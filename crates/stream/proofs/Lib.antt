@@ -1,3 +1,4 @@
 pub mod Shares
 pub mod Spaced
 pub mod Examples
+pub mod Words

@@ -1,10 +1,10 @@
 -- What header and run come to, over plain lists: each part written in turn makes what stands before it longer.
-use mathlib.Core.Path.{_≡_, sym, ap, _∙_}
+use mathlib.Core.Path.{_≡_, refl, sym, ap, _∙_}
 use mathlib.Core.List.{List, _∷_, _++_, append-assoc}
 use Prim.Native.Nat.{ℕ, zero, suc, _≤_, _-_, _+_, _*_, min}
 use native.Mathlib.Omega.{arith}
-use lib.ListN.{length, take, drop, set, replicate, length-drop, length-take, length-append, length-replicate}
-use lib.Seq.{take-at, drop-at, length-take-le}
+use lib.ListN.{length, take, drop, set, getD, replicate, length-drop, length-take, length-append, length-replicate}
+use lib.Seq.{take-at, drop-at, getD-at, length-take-le}
 use borrow.Rule.Slice.PartMut.{putMid}
 use Rattle.copier.proofs.Parts.{put-part, put-next, put-last, take-both}
 use Rattle.word.specs.Word.{h1Of, h2Of}
@@ -126,3 +126,16 @@ header-made d p q r s f h l w c h-is l-is e₁ e₂ e₃ = rw (← h-is, ← l-i
 pub second-long : (c n d : List ℕ) (sent from first : ℕ) → Pour c n sent from d → first ≡ min (length d - from) (length c - sent)
     → length d - from - first ≡ length (take (length d - from - first) n)
 second-long c n d sent from first h e = sym (length-take-le (length d - from - first) n (second-low (length d - from) (length c - sent) (length n) first (h .enough) e))
+
+-- H1 stands first, and H2 a step after it
+pub head-h1 : (step word from : ℕ) (run : List ℕ) → getD (headOf step word from ++ run) 0 0 ≡ h1Of word
+unfolding headOf groupOf
+head-h1 step word from run = refl
+
+pub head-h2 : (step word from : ℕ) (run : List ℕ) → 1 ≤ step → getD (headOf step word from ++ run) step 0 ≡ h2Of word
+unfolding headOf groupOf
+head-h2 step word from run h =
+    let g = groupOf step (h1Of word) 0x9b in
+    let l = length-group step (h1Of word) 0x9b h in
+    ap (λ (x : List ℕ). getD x step 0) (append-assoc g (groupOf step (h2Of word) 0xff ++ replicate (from - 2 * step) 0) run)
+    ∙ getD-at g (h2Of word) ((replicate (step - 1) 0xff ++ replicate (from - 2 * step) 0) ++ run) 0 step l
