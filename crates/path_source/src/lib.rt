@@ -1,5 +1,5 @@
 // The container source, the sending end of a path: the overhead of each container, what is refused, and the state from one container to the next.
-// The definitions stand in specs/: Overhead (the nine bytes), Source (the call).
+// The definitions stand in specs/: Overhead (the nine bytes), Source (the call). The theorems about what it sends are in the crate `sending`.
 ghost use mathlib.Core.Path.{_≡_};
 ghost use Prim.Native.Nat.{_≤_};
 ghost use Rattle.shape.specs.Shape.{au4, Fit};

@@ -1,5 +1,5 @@
 // What a label and a trace may be: refusals 4 and 5, wherever a label or a trace is expected, sent or listed.
-// The definitions stand in specs/Settings.antt. The crate `records` rests on it.
+// The definitions stand in specs/Settings.antt. The container source and the catalogue's records rest on it.
 ghost use mathlib.Core.Path.{_≡_};
 ghost use Rattle.settings.specs.Settings.{labelRefused, outside, traceRefused};
 

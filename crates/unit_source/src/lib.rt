@@ -1,4 +1,5 @@
 // The unit source: units made out of containers, with the pointer written and adjusted. The definitions stand in specs/Source.antt.
+// The theorems about what it sends are in the crate `stream`.
 ghost use mathlib.Core.Path.{_≡_};
 ghost use Prim.Native.Nat.{_+_, min};
 ghost use lib.ListN.{length};
