@@ -1,7 +1,7 @@
 -- What the payload call has to show at each of its ends, and what a call with nothing wrong has shown. Assumes nothing.
 use mathlib.Core.Path.{_≡_, ap, _∙_}
 use mathlib.Core.Bool.{Bool, true, false, not}
-use mathlib.Core.List.{List, append-nil}
+use mathlib.Core.List.{List}
 use Prim.Native.Nat.{ℕ, _+_, _*_, _-_}
 use native.Mathlib.Omega.{arith}
 use lib.Dec.{eqb}
@@ -12,7 +12,7 @@ use Rattle.refusals.specs.declared.Refusal.{Refusal}
 use Rattle.refusals.specs.declared.Refusal.the-variants.{Container, Payload}
 use Rattle.refusals.specs.declared.Answer.{Answer}
 use Rattle.refusals.specs.declared.Answer.the-variants.{Done, Refused}
-use Rattle.refusals.proofs.Wrong.{due-none, none-wrong, outcome-done, outcome-refused}
+use Rattle.refusals.proofs.Wrong.{due-none, due-false, none-wrong, outcome-done, outcome-refused}
 use Rattle.shape.specs.Shape.{Fit}
 use Rattle.shape.specs.declared.Shape.{Shape}
 use Rattle.container.specs.Container.{payloadSize, payloadIn}
@@ -44,10 +44,10 @@ module _ (s : Shape) (n m : ℕ) where
   handable a e d =
       let none = none-wrong (payloadFaults s n m) (cc) in
       let p = due-none (not (eqb n (s .size))) Container (due (not (eqb m (payloadSize (s .columns)))) Payload) none in
-      let q = due-none (not (eqb m (payloadSize (s .columns)))) Payload _ (append-nil _ ∙ p .1) in
+      let q = due-false (not (eqb m (payloadSize (s .columns)))) Payload (p .1) in
       record {
         container-is = eqb-true n (s .size) (not-false (eqb n (s .size)) (p .0));
-        payload-is = eqb-true m (payloadSize (s .columns)) (not-false (eqb m (payloadSize (s .columns))) (q .0));
+        payload-is = eqb-true m (payloadSize (s .columns)) (not-false (eqb m (payloadSize (s .columns))) q);
       }
 
   -- so that `strip` has the lengths it asks for

@@ -1,7 +1,7 @@
 -- What a call of the source has to show at each of its ends, and what a call with nothing wrong has shown. Assumes nothing.
-use mathlib.Core.Path.{_≡_, _∙_}
+use mathlib.Core.Path.{_≡_}
 use mathlib.Core.Bool.{Bool, true, false, not}
-use mathlib.Core.List.{List, append-nil}
+use mathlib.Core.List.{List}
 use Prim.Native.Nat.{ℕ, _+_, _*_, _-_, _%_, _<_, _≤_}
 use native.Mathlib.Omega.{arith}
 use lib.Dec.{eqb, ltb}
@@ -14,7 +14,7 @@ use Rattle.refusals.specs.declared.Refusal.{Refusal}
 use Rattle.refusals.specs.declared.Refusal.the-variants as wrong
 use Rattle.refusals.specs.declared.Answer.{Answer}
 use Rattle.refusals.specs.declared.Answer.the-variants.{Done, Refused}
-use Rattle.refusals.proofs.Wrong.{due-none, none-wrong, outcome-done, outcome-refused}
+use Rattle.refusals.proofs.Wrong.{due-none, due-false, none-wrong, outcome-done, outcome-refused}
 use Rattle.shape.specs.Shape.{Fit}
 use Rattle.shape.specs.declared.Shape.{Shape}
 use Rattle.container.specs.Container.{payloadSize, rowsOf}
@@ -84,14 +84,14 @@ module _ (s : Shape) (place label : ℕ) (trace : List ℕ) (payload container v
       let p3 = due-none (traceRefused trace) wrong.Trace _ (p2 .1) in
       let p4 = due-none (not (eqb payload (payloadSize (s .columns)))) wrong.Payload _ (p3 .1) in
       let p5 = due-none (not (eqb container (s .size))) wrong.Container _ (p4 .1) in
-      let p6 = due-none (ltb 8 violations) wrong.Violations _ (append-nil _ ∙ p5 .1) in
+      let p6 = due-false (ltb 8 violations) wrong.Violations (p5 .1) in
       record {
         place-is = ltb-false 15 place (p1 .0);
         label-is = p2 .0;
         trace-is = p3 .0;
         payload-is = eqb-true payload (payloadSize (s .columns)) (not-false (eqb payload (payloadSize (s .columns))) (p4 .0));
         container-is = eqb-true container (s .size) (not-false (eqb container (s .size)) (p5 .0));
-        violations-is = ltb-false 8 violations (p6 .0);
+        violations-is = ltb-false 8 violations p6;
       }
 
   -- so that `rows` has the lengths it asks for

@@ -12,14 +12,6 @@ use Rattle.refusals.specs.declared.Answer.the-variants.{Done, Refused}
 
 -- ---- one test after the other
 
-pub due-first : (b : Bool) (x : Refusal) (rest : List Refusal) → b ≡ true → answerOf (due b x ++ rest) ≡ Refused x
-unfolding due answerOf
-due-first b x rest e = rw e refl
-
-pub due-next : (b : Bool) (x : Refusal) (rest : List Refusal) → b ≡ false → due b x ++ rest ≡ rest
-unfolding due
-due-next b x rest e = rw e refl
-
 -- nothing is wrong: neither by this test nor by those after it
 pub due-none : (b : Bool) (x : Refusal) (rest : List Refusal) → due b x ++ rest ≡ [] → (b ≡ false) × (rest ≡ [])
 unfolding due

@@ -1,4 +1,5 @@
+pub mod Refused
 pub mod Shares
 pub mod Spaced
-pub mod Examples
 pub mod Words
+pub mod Examples

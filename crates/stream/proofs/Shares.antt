@@ -22,7 +22,7 @@ use Rattle.shape.proofs.Balance.{balance}
 use Rattle.unit.specs.Unit.{headOf, runOf}
 use Rattle.unit.proofs.Writing.{length-head}
 use Rattle.unit_source.specs.Source.{Outcome, Ready, makeFaults, wordSent, unitSent, stateAfter, unitSource}
-use Rattle.unit_source.proofs.Answers.{admitted}
+use Rattle.unit_source.proofs.Answers.{makable}
 use Rattle.stream.specs.Stream.{Sending, called, after, shareIn, share, underWay, atEnd, shares, ended, joined, LastSent}
 
 -- ---- the bytes of two containers, cut after k of them
@@ -120,7 +120,7 @@ module _ (s : Shape) (f : Fit s) (box : ℕ → List ℕ) where
           → Carried x a (outcome l
           (record { made = record { answer = Done; ended = endedBy a (x .state .offset); state = stateAfter s a (x .state) }; unit = unitSent s a (x .state .offset) (box (x .number)) (box (x .number + 1)) })
           (λ y. record { made = record { answer = Refused y; ended = 0; state = x .state }; unit = x .unit }))
-      go [] e = unit-carried x a (length (x .unit)) (admitted s (x .state) a (length (box (x .number))) (length (box (x .number + 1))) (length (x .unit)) (ap answerOf e) .ready)
+      go [] e = unit-carried x a (length (x .unit)) (makable s (x .state) a (length (box (x .number))) (length (box (x .number + 1))) (length (x .unit)) (ap answerOf e) .ready)
       go (y ∷ l) e = refused-carried x a y
 
   -- ---- THE STREAM

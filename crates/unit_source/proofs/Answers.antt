@@ -52,15 +52,15 @@ or-false false b e = (refl, e)
 or-false true b e = absurd (true≢false e)
 
 -- no row of the table applies
-pub record Admitted (s : Shape) (state : State) (a : Adjustment) (current next unit : ℕ) : Type 0 where
+pub record Makable (s : Shape) (state : State) (a : Adjustment) (current next unit : ℕ) : Type 0 where
   pub ready : Ready s (state .offset) current next unit
   pub wait-low : state .wait ≤ 3
   pub free : adjusts a ≡ true → 3 ≤ state .wait
 
 module _ (s : Shape) (state : State) (a : Adjustment) (current next unit : ℕ) where
-  pub admitted : answerOf (makeFaults s state a current next unit) ≡ Done → Admitted s state a current next unit
+  pub makable : answerOf (makeFaults s state a current next unit) ≡ Done → Makable s state a current next unit
   unfolding makeFaults outOfRange
-  admitted e =
+  makable e =
       let w = none-wrong (makeFaults s state a current next unit) e in
       let p = due-none (outOfRange (s .top) state) wrong.State _ w in
       let q = due-none (not (eqb current (s .size)) || not (eqb next (s .size))) wrong.Container _ (p .1) in
@@ -80,7 +80,7 @@ module _ (s : Shape) (state : State) (a : Adjustment) (current next unit : ℕ) 
         free = λ h. ltb-false (state .wait) 3 (rw h at late);
       }
 
-  pub not-refused : Admitted s state a current next unit → answerOf (makeFaults s state a current next unit) ≡ Done
+  pub not-refused : Makable s state a current next unit → answerOf (makeFaults s state a current next unit) ≡ Done
   unfolding makeFaults outOfRange due answerOf
   not-refused h =
       let r = h .ready in
@@ -109,7 +109,7 @@ module _ (s : Shape) (state : State) (a : Adjustment) (current next before : Lis
 
 module _ (s : Shape) (state : State) (a : Adjustment) (current next before : List ℕ) (r : Answer) (r-is : r ≡ answerOf (makeFaults s state a (length current) (length next) (length before))) where
   pub made-ready : r ≡ Done → Ready s (state .offset) (length current) (length next) (length before)
-  made-ready h = admitted s state a (length current) (length next) (length before) (sym r-is ∙ h) .ready
+  made-ready h = makable s state a (length current) (length next) (length before) (sym r-is ∙ h) .ready
 
   pub made-low : r ≡ Done → state .offset ≤ s .top
   made-low h = made-ready h .offset-low
