@@ -8,22 +8,22 @@ use Rattle.refusals.specs.declared.Answer.{Answer}
 use Rattle.shape.specs.declared.Shape.{Shape}
 use Rattle.shape.specs.declared.Adjustment.{Adjustment}
 use Rattle.container.specs.Payload.{payloadCall, Hands}
-use Rattle.path_source.specs.Source as paths
-use Rattle.path_source.specs.declared.State as path
-use Rattle.path_source.specs.declared.Given.{Given}
-use Rattle.path_source.specs.declared.Sent.{Sent}
+use Rattle.container_source.specs.Source as containers
+use Rattle.container_source.specs.declared.State as between-containers
+use Rattle.container_source.specs.declared.Given.{Given}
+use Rattle.container_source.specs.declared.Sent.{Sent}
 use Rattle.unit_source.specs.Source as units
-use Rattle.unit_source.specs.declared.State as unit
+use Rattle.unit_source.specs.declared.State as between-units
 use Rattle.unit_source.specs.declared.Made.{Made}
-use Rattle.probe.specs.Probe.{packedPath, packedSent, packedUnit, packedMade, adjustmentOf, Probes, probedSent, probedMade, probedHanded}
+use Rattle.probe.specs.Probe.{packedSource, packedSent, packedUnit, packedMade, adjustmentOf, Probes, probedSent, probedMade, probedHanded}
 
-pub path-packed : (s t : path.State) (n : ℕ) → s ≡ t → n ≡ packedPath s → n ≡ packedPath t
-path-packed s t n e p = p ∙ ap packedPath e
+pub source-packed : (s t : between-containers.State) (n : ℕ) → s ≡ t → n ≡ packedSource s → n ≡ packedSource t
+source-packed s t n e p = p ∙ ap packedSource e
 
-pub unit-packed : (s t : unit.State) (n : ℕ) → s ≡ t → n ≡ packedUnit s → n ≡ packedUnit t
+pub unit-packed : (s t : between-units.State) (n : ℕ) → s ≡ t → n ≡ packedUnit s → n ≡ packedUnit t
 unit-packed s t n e p = p ∙ ap packedUnit e
 
-pub sent-packed : (x : Sent) (n p : ℕ) → n ≡ answerNumber (x .answer) → p ≡ packedPath (x .state) → n * 65536 + p ≡ packedSent x
+pub sent-packed : (x : Sent) (n p : ℕ) → n ≡ answerNumber (x .answer) → p ≡ packedSource (x .state) → n * 65536 + p ≡ packedSent x
 unfolding packedSent
 sent-packed x n p e f = rw (e, f)
 
@@ -31,12 +31,12 @@ pub made-packed : (x : Made) (n p : ℕ) → n ≡ answerNumber (x .answer) → 
 unfolding packedMade
 made-packed x n p e f = rw (e, f)
 
-pub container-probed : (s : Shape) (state : path.State) (g : Given) (trace payload before after : List ℕ) (m : Sent) (n : ℕ)
-    → paths.Sends s state g trace payload before m after → n ≡ packedSent m
-    → Probes n after (probedSent (paths.containerSource s state g trace payload before))
+pub container-probed : (s : Shape) (state : between-containers.State) (g : Given) (trace payload before after : List ℕ) (m : Sent) (n : ℕ)
+    → containers.Sends s state g trace payload before m after → n ≡ packedSent m
+    → Probes n after (probedSent (containers.containerSource s state g trace payload before))
 container-probed s state g trace payload before after m n e p = rw p (ap probedSent e)
 
-pub unit-probed : (s : Shape) (state : unit.State) (asked : ℕ) (a : Adjustment) (current next before after : List ℕ) (m : Made) (n : ℕ)
+pub unit-probed : (s : Shape) (state : between-units.State) (asked : ℕ) (a : Adjustment) (current next before after : List ℕ) (m : Made) (n : ℕ)
     → a ≡ adjustmentOf asked → units.Makes s state a current next before m after → n ≡ packedMade m
     → Probes n after (probedMade (units.unitSource s state (adjustmentOf asked) current next before))
 unit-probed s state asked a current next before after m n h e p = rw (← h, p) (ap probedMade e)

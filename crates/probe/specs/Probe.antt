@@ -9,12 +9,12 @@ use Rattle.refusals.specs.Refusals.{answerNumber}
 use Rattle.shape.specs.declared.Adjustment.{Adjustment}
 use Rattle.shape.specs.declared.Adjustment.the-variants as ask
 use Rattle.container.specs.Payload.{Handed}
-use Rattle.path_source.specs.Source as paths
-use Rattle.path_source.specs.declared.State as path
-use Rattle.path_source.specs.declared.Given.{Given}
-use Rattle.path_source.specs.declared.Sent.{Sent}
+use Rattle.container_source.specs.Source as containers
+use Rattle.container_source.specs.declared.State as between-containers
+use Rattle.container_source.specs.declared.Given.{Given}
+use Rattle.container_source.specs.declared.Sent.{Sent}
 use Rattle.unit_source.specs.Source as units
-use Rattle.unit_source.specs.declared.State as unit
+use Rattle.unit_source.specs.declared.State as between-units
 use Rattle.unit_source.specs.declared.Made.{Made}
 use Rattle.records.specs.Refusals.{numberOf, placesOf}
 use Rattle.records.specs.declared.Refusal.{Refusal}
@@ -40,12 +40,12 @@ packedFound (Not x) = packed x
 -- ---- the sources
 
 -- a container source's state: place and parity, a byte each
-unfoldable pub packedPath : path.State → ℕ
-packedPath s = s .place * 256 + s .parity
+unfoldable pub packedSource : between-containers.State → ℕ
+packedSource s = s .place * 256 + s .parity
 
 -- its answer: the refusal's number, 0 for none, and the state
 unfoldable pub packedSent : Sent → ℕ
-packedSent x = answerNumber (x .answer) * 65536 + packedPath (x .state)
+packedSent x = answerNumber (x .answer) * 65536 + packedSource (x .state)
 
 -- what it is given, a number at a time
 unfoldable pub givenOf : ℕ → ℕ → ℕ → ℕ → ℕ → ℕ → ℕ → Bool → Given
@@ -53,7 +53,7 @@ givenOf label f2 h4 f3 k3 n1 violations remote =
     record { label = label; unexamined = record { f2 = f2; h4 = h4; f3 = f3; k3 = k3; n1 = n1 }; violations = violations; remote = remote }
 
 -- a unit source's state: offset, and the wait in a byte
-unfoldable pub packedUnit : unit.State → ℕ
+unfoldable pub packedUnit : between-units.State → ℕ
 packedUnit s = s .offset * 256 + s .wait
 
 -- its answer: the refusal's number, how many ended, and the state
@@ -72,7 +72,7 @@ pub record Probed : Type 0 where
 abbrev pub Probes : ℕ → List ℕ → Probed → Type 0
 Probes n bytes o = _≡_ {A = Probed} (record { number = n; bytes = bytes }) o
 
-abbrev pub probedSent : paths.Outcome → Probed
+abbrev pub probedSent : containers.Outcome → Probed
 probedSent o = record { number = packedSent (o .sent); bytes = o .container }
 
 abbrev pub probedMade : units.Outcome → Probed

@@ -11,16 +11,16 @@ ghost use Rattle.catalogue.specs.Catalogue.{checkOf, lookupOf};
 ghost use Rattle.listing.specs.Listing.{Listed};
 ghost use Rattle.shape.specs.Shape.{au4};
 ghost use Rattle.container.specs.Payload.{payloadCall};
-ghost use Rattle.path_source.specs.Source as paths;
-ghost use Rattle.path_source.specs.Source.{containerSource};
+ghost use Rattle.container_source.specs.Source as containers;
+ghost use Rattle.container_source.specs.Source.{containerSource};
 ghost use Rattle.unit_source.specs.Source as units;
 ghost use Rattle.unit_source.specs.Source.{unitSource};
-ghost use Rattle.probe.specs.Probe.{packed, packedCheck, packedFound, packedPath, packedSent, packedUnit, packedMade, adjustmentOf, givenOf, Probes, probedSent, probedMade, probedHanded};
+ghost use Rattle.probe.specs.Probe.{packed, packedCheck, packedFound, packedSource, packedSent, packedUnit, packedMade, adjustmentOf, givenOf, Probes, probedSent, probedMade, probedHanded};
 use catalogue::Checked;
 use catalogue::Found;
-use path_source::Given;
-use path_source::Sent;
-use path_source::Unexamined;
+use container_source::Given;
+use container_source::Sent;
+use container_source::Unexamined;
 use records::Refusal;
 use shape::Adjustment;
 use unit_source::Made;
@@ -137,8 +137,8 @@ pub extern "C" fn probe_list(s: &[u8], text: &mut [u8; 15898]) -> usize
     listing::list(s, text)
 }
 
-fn pack_path(s: path_source::State) -> u32
-    ensures { λ r. ⌜ (r ≡ packedPath s) × (r < 65536) ⌝ }
+fn pack_source(s: container_source::State) -> u32
+    ensures { λ r. ⌜ (r ≡ packedSource s) × (r < 65536) ⌝ }
 {
     s.place as u32 * 256 + s.parity as u32
 }
@@ -148,15 +148,15 @@ fn pack_sent(x: Sent) -> u32
 {
     let a = x.answer;
     let s = x.state;
-    refusals::number(a) as u32 * 65536 + pack_path(s)
+    refusals::number(a) as u32 * 65536 + pack_source(s)
 }
 
 // The state of a container source that has sent nothing.
 #[no_mangle]
 pub extern "C" fn probe_fresh_container() -> u32
-    ensures { λ r. ⌜ r ≡ packedPath paths.freshState ⌝ }
+    ensures { λ r. ⌜ r ≡ packedSource containers.freshState ⌝ }
 {
-    pack_path(path_source::fresh())
+    pack_source(container_source::fresh())
 }
 
 // The container source.
@@ -178,7 +178,7 @@ pub extern "C" fn probe_container(
 ) -> u32
     ensures { λ r. ⌜ Probes r (now (container .exit)) (probedSent (containerSource au4 (record { place = place; parity = parity }) (givenOf label f2 h4 f3 k3 n1 violations remote) (now (characters .entry)) (now (payload .entry)) (now (container .entry)))) ⌝ }
 {
-    let s = path_source::State { place, parity };
+    let s = container_source::State { place, parity };
     let unexamined = Unexamined { f2, h4, f3, k3, n1 };
     let g = Given {
         label,
@@ -186,7 +186,7 @@ pub extern "C" fn probe_container(
         violations,
         remote,
     };
-    pack_sent(path_source::container_source(s, g, characters, payload, container))
+    pack_sent(container_source::container_source(s, g, characters, payload, container))
 }
 
 fn pack_unit(s: unit_source::State) -> u64

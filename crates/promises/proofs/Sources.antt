@@ -6,10 +6,10 @@ use Prim.Native.Nat.{ℕ}
 use denote.Ref.{now}
 use Rattle.shape.specs.declared.Shape.{Shape}
 use Rattle.container.specs.Payload.{Handed}
-use Rattle.path_source.specs.Source as path-left
-use Rattle.path_source.specs.declared.State as path
+use Rattle.container_source.specs.Source as container-left
+use Rattle.container_source.specs.declared.State as between-containers
 use Rattle.unit_source.specs.Source as unit-left
-use Rattle.unit_source.specs.declared.State as unit
+use Rattle.unit_source.specs.declared.State as between-units
 use Rattle.probe.specs.Probe.{Probed}
 use Rattle.promises.proofs.Determined.{Determines}
 use Rattle.refusals.proofs.number.Kinds as refusals-number
@@ -30,10 +30,10 @@ use Rattle.container.proofs.rows.Kinds as container-rows
 use Rattle.container.proofs.rows.Reads as container-rows-promise
 use Rattle.container.proofs.payload_call.Kinds as payload-call
 use Rattle.container.proofs.payload_call.Reads as payload-call-promise
-use Rattle.path_source.proofs.fresh.Kinds as path-source-fresh
-use Rattle.path_source.proofs.fresh.Reads as path-source-fresh-promise
-use Rattle.path_source.proofs.container_source.Kinds as container-source
-use Rattle.path_source.proofs.container_source.Reads as container-source-promise
+use Rattle.container_source.proofs.fresh.Kinds as container-source-fresh
+use Rattle.container_source.proofs.fresh.Reads as container-source-fresh-promise
+use Rattle.container_source.proofs.container_source.Kinds as container-source
+use Rattle.container_source.proofs.container_source.Reads as container-source-promise
 use Rattle.unit.proofs.header.Kinds as unit-header
 use Rattle.unit.proofs.header.Reads as unit-header-promise
 use Rattle.unit.proofs.pour.Kinds as unit-pour
@@ -86,12 +86,12 @@ container-rows-determined κs a x y s t p q = p ∙ sym q
 pub payload-call-determined : Determines {O = Handed} 2 payload-call.ps payload-call.r payload-call-promise.Post (λ κs r e. record { answer = r; payload = now (e .1 .1 .0) })
 payload-call-determined κs a x y s t p q = p ∙ sym q
 
--- ---- path_source
+-- ---- container_source
 
-pub path-source-fresh-determined : Determines {O = path.State} 0 path-source-fresh.ps path-source-fresh.r path-source-fresh-promise.Post (λ κs r e. r)
-path-source-fresh-determined κs a x y s t p q = p ∙ sym q
+pub container-source-fresh-determined : Determines {O = between-containers.State} 0 container-source-fresh.ps container-source-fresh.r container-source-fresh-promise.Post (λ κs r e. r)
+container-source-fresh-determined κs a x y s t p q = p ∙ sym q
 
-pub container-source-determined : Determines {O = path-left.Outcome} 3 container-source.ps container-source.r container-source-promise.Post (λ κs r e. record { sent = r; container = now (e .1 .1 .1 .1 .0) })
+pub container-source-determined : Determines {O = container-left.Outcome} 3 container-source.ps container-source.r container-source-promise.Post (λ κs r e. record { sent = r; container = now (e .1 .1 .1 .1 .0) })
 container-source-determined κs a x y s t p q = p ∙ sym q
 
 -- ---- unit
@@ -104,7 +104,7 @@ unit-pour-determined κs a x y s t p q = p ∙ sym q
 
 -- ---- unit_source
 
-pub unit-source-fresh-determined : Determines {O = unit.State} 0 unit-source-fresh.ps unit-source-fresh.r unit-source-fresh-promise.Post (λ κs r e. r)
+pub unit-source-fresh-determined : Determines {O = between-units.State} 0 unit-source-fresh.ps unit-source-fresh.r unit-source-fresh-promise.Post (λ κs r e. r)
 unit-source-fresh-determined κs a x y s t p q = p ∙ sym q
 
 pub unit-source-determined : Determines {O = unit-left.Outcome} 3 unit-source.ps unit-source.r unit-source-promise.Post (λ κs r e. record { made = r; unit = now (e .1 .1 .1 .1 .0) })

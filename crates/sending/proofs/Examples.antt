@@ -12,9 +12,9 @@ use Rattle.refusals.specs.declared.Answer.the-variants.{Done}
 use Rattle.shape.specs.Shape.{au4}
 use Rattle.container.specs.Container.{rowsOf, headsOf, containerOf, overheadIn}
 use Rattle.container.specs.Payload.{payloadFaults}
-use Rattle.path_source.specs.Overhead.{j1Of, g1Of, overheadOf}
-use Rattle.path_source.specs.Source.{freshState, sendFaults, containerSent, stateAfter, containerSource}
-use Rattle.path_source.specs.declared.Given.{Given}
+use Rattle.container_source.specs.Overhead.{j1Of, g1Of, overheadOf}
+use Rattle.container_source.specs.Source.{freshState, sendFaults, containerSent, stateAfter, containerSource}
+use Rattle.container_source.specs.declared.Given.{Given}
 
 -- ---- layout
 

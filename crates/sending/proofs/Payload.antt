@@ -10,10 +10,10 @@ use Rattle.shape.specs.declared.Shape.{Shape}
 use Rattle.container.specs.Container.{payloadSize}
 use Rattle.container.specs.Payload.{handed, payloadCall}
 use Rattle.container.proofs.Places.{length-container, payload-container}
-use Rattle.path_source.specs.Overhead.{overheadOf}
-use Rattle.path_source.specs.Source.{containerSent, Outcome, containerSource}
-use Rattle.path_source.specs.declared.State.{State}
-use Rattle.path_source.specs.declared.Given.{Given}
+use Rattle.container_source.specs.Overhead.{overheadOf}
+use Rattle.container_source.specs.Source.{containerSent, Outcome, containerSource}
+use Rattle.container_source.specs.declared.State.{State}
+use Rattle.container_source.specs.declared.Given.{Given}
 use Rattle.sending.proofs.Refused.{some-columns, source-done, source-sendable, handable-payload, payload-done}
 
 module _ (s : Shape) (state : State) (g : Given) (trace payload before : List ℕ) (f : Fit s) (done : containerSource s state g trace payload before .sent .answer ≡ Done) where

@@ -16,11 +16,11 @@ use Rattle.shape.specs.declared.Shape.{Shape}
 use Rattle.container.specs.Payload.{payloadFaults, handed, Handed, payloadCall}
 use Rattle.container.proofs.PayloadLaws as payload-laws
 use Rattle.container.proofs.PayloadLaws.{Handable, handable}
-use Rattle.path_source.specs.Source.{sendFaults, containerSent, stateAfter, Outcome, containerSource}
-use Rattle.path_source.specs.declared.State.{State}
-use Rattle.path_source.specs.declared.Given.{Given}
-use Rattle.path_source.proofs.SourceLaws as source-laws
-use Rattle.path_source.proofs.SourceLaws.{Sendable, sendable}
+use Rattle.container_source.specs.Source.{sendFaults, containerSent, stateAfter, Outcome, containerSource}
+use Rattle.container_source.specs.declared.State.{State}
+use Rattle.container_source.specs.declared.Given.{Given}
+use Rattle.container_source.proofs.SourceLaws as source-laws
+use Rattle.container_source.proofs.SourceLaws.{Sendable, sendable}
 
 -- a shape that fits has a column
 pub some-columns : (s : Shape) → Fit s → 0 < s .columns

@@ -13,9 +13,9 @@ use Rattle.shape.specs.Shape.{Fit}
 use Rattle.shape.specs.declared.Shape.{Shape}
 use Rattle.container.specs.Container.{overheadIn}
 use Rattle.container.proofs.Places.{getD-container, overhead-container}
-use Rattle.path_source.specs.Overhead.{j1Of, g1Of, overheadOf}
-use Rattle.path_source.specs.Source.{freshState, containerSent, stateAfter, Outcome}
-use Rattle.path_source.specs.declared.State.{State}
+use Rattle.container_source.specs.Overhead.{j1Of, g1Of, overheadOf}
+use Rattle.container_source.specs.Source.{freshState, containerSent, stateAfter, Outcome}
+use Rattle.container_source.specs.declared.State.{State}
 use Rattle.sending.specs.Run.{Call, called, stateAt, outcomeAt, containerAt, Unrefused, j1s, b3, Carries}
 use Rattle.sending.proofs.Refused.{some-columns, source-done, source-kept, source-sendable}
 

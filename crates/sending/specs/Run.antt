@@ -6,9 +6,9 @@ use Prim.Native.Nat.{ℕ, zero, suc, _+_, _*_, _<_}
 use lib.ListN.{getD}
 use Rattle.refusals.specs.declared.Answer.the-variants.{Done}
 use Rattle.shape.specs.declared.Shape.{Shape}
-use Rattle.path_source.specs.Source.{Outcome, containerSource}
-use Rattle.path_source.specs.declared.State.{State}
-use Rattle.path_source.specs.declared.Given.{Given}
+use Rattle.container_source.specs.Source.{Outcome, containerSource}
+use Rattle.container_source.specs.declared.State.{State}
+use Rattle.container_source.specs.declared.Given.{Given}
 
 -- what one call is given, and the container it is lent
 pub record Call : Type 0 where

@@ -13,8 +13,8 @@ cast-result c = search needs
 mul-result : tie.Need-mul-result
 mul-result c = search needs
 
-pack-path-requires : tie.Need-pack-path-requires
-pack-path-requires c κs = search needs
+pack-source-requires : tie.Need-pack-source-requires
+pack-source-requires c κs = search needs
 
 add-result : tie.Need-add-result
 add-result c = search needs
@@ -25,4 +25,4 @@ returns c = search sent-packed
 pub pack-sent-spec : {M : Type 1} → statement M
 pack-sent-spec =
     tie.close
-    (tie.spec number-requires cast-result mul-result pack-path-requires add-result returns)
+    (tie.spec number-requires cast-result mul-result pack-source-requires add-result returns)

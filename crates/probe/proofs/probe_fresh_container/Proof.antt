@@ -1,5 +1,5 @@
 -- `probe::probe_fresh_container` meets its contract: the fresh state. Assumes nothing.
-use Rattle.probe.proofs.Packs.{path-packed}
+use Rattle.probe.proofs.Packs.{source-packed}
 use borrow.Author.Needs.{needs}
 use Rattle.probe.proofs.probe_fresh_container.Statement.{statement}
 use Rattle.probe.proofs.probe_fresh_container.Tie as tie
@@ -7,11 +7,11 @@ use Rattle.probe.proofs.probe_fresh_container.Tie as tie
 fresh-requires : tie.Need-fresh-requires
 fresh-requires c κs = search needs
 
-pack-path-requires : tie.Need-pack-path-requires
-pack-path-requires c κs = search needs
+pack-source-requires : tie.Need-pack-source-requires
+pack-source-requires c κs = search needs
 
 returns : tie.Need-returns
-returns c = search path-packed
+returns c = search source-packed
 
 pub probe-fresh-container-spec : {M : Type 1} → statement M
-probe-fresh-container-spec = tie.close (tie.spec fresh-requires pack-path-requires returns)
+probe-fresh-container-spec = tie.close (tie.spec fresh-requires pack-source-requires returns)

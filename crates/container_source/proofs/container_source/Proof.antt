@@ -1,9 +1,9 @@
--- `path_source::container_source` meets its contract: it is `send` with AU-4's shape, which fits. Assumes nothing.
-use Rattle.path_source.proofs.SourceLaws.{send-as}
+-- `container_source::container_source` meets its contract: it is `send` with AU-4's shape, which fits. Assumes nothing.
+use Rattle.container_source.proofs.SourceLaws.{send-as}
 use Rattle.shape.proofs.Offsets.{au4-fits}
 use borrow.Author.Needs.{needs}
-use Rattle.path_source.proofs.container_source.Statement.{statement}
-use Rattle.path_source.proofs.container_source.Tie as tie
+use Rattle.container_source.proofs.container_source.Statement.{statement}
+use Rattle.container_source.proofs.container_source.Tie as tie
 
 au4-requires : tie.Need-au4-requires
 au4-requires c κs = search needs

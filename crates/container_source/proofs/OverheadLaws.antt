@@ -7,9 +7,9 @@ use native.Mathlib.Nat.{add-zero}
 use native.Mathlib.Numerals.{sub-one}
 use lib.ListN.{getD}
 use Rattle.trace.specs.Check.{startByte, message}
-use Rattle.path_source.specs.Overhead.{j1Of, g1Of, overheadOf}
-use Rattle.path_source.specs.declared.State.{State}
-use Rattle.path_source.specs.declared.Given.{Given}
+use Rattle.container_source.specs.Overhead.{j1Of, g1Of, overheadOf}
+use Rattle.container_source.specs.declared.State.{State}
+use Rattle.container_source.specs.declared.Given.{Given}
 
 -- ---- J1
 

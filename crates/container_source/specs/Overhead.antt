@@ -4,8 +4,8 @@ use mathlib.Core.Bool.{Bool, cond}
 use mathlib.Core.List.{List, [], _∷_}
 use lib.ListN.{getD}
 use Rattle.trace.specs.Check.{message}
-use Rattle.path_source.specs.declared.State.{State}
-use Rattle.path_source.specs.declared.Given.{Given}
+use Rattle.container_source.specs.declared.State.{State}
+use Rattle.container_source.specs.declared.Given.{Given}
 
 -- "J1 carries 16 bytes in turn: a start byte .. then 15 characters"
 unfoldable pub j1Of : ℕ → List ℕ → ℕ

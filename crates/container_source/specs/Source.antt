@@ -13,10 +13,10 @@ use Rattle.refusals.specs.declared.Refusal.the-variants as wrong
 use Rattle.refusals.specs.declared.Answer.the-variants.{Done, Refused}
 use Rattle.shape.specs.declared.Shape.{Shape}
 use Rattle.container.specs.Container.{payloadSize, containerOf}
-use Rattle.path_source.specs.Overhead.{overheadOf}
-use Rattle.path_source.specs.declared.State.{State}
-use Rattle.path_source.specs.declared.Given.{Given}
-use Rattle.path_source.specs.declared.Sent.{Sent}
+use Rattle.container_source.specs.Overhead.{overheadOf}
+use Rattle.container_source.specs.declared.State.{State}
+use Rattle.container_source.specs.declared.Given.{Given}
+use Rattle.container_source.specs.declared.Sent.{Sent}
 
 -- "a fresh container source begins at the start byte"; B3 is "00 in a source's first"
 abbrev pub freshState : State

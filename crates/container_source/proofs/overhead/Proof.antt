@@ -1,8 +1,8 @@
--- `path_source::overhead` meets its contract: what `j1` and `g1` return stands among the bytes given. Assumes nothing.
-use Rattle.path_source.proofs.OverheadLaws.{overhead-is}
+-- `container_source::overhead` meets its contract: what `j1` and `g1` return stands among the bytes given. Assumes nothing.
+use Rattle.container_source.proofs.OverheadLaws.{overhead-is}
 use borrow.Author.Needs.{needs}
-use Rattle.path_source.proofs.overhead.Statement.{statement}
-use Rattle.path_source.proofs.overhead.Tie as tie
+use Rattle.container_source.proofs.overhead.Statement.{statement}
+use Rattle.container_source.proofs.overhead.Tie as tie
 
 j1-requires : tie.Need-j1-requires
 j1-requires c κs = search needs

@@ -18,11 +18,11 @@ use Rattle.refusals.proofs.Wrong.{due-none, due-false, none-wrong, outcome-done
 use Rattle.shape.specs.Shape.{Fit}
 use Rattle.shape.specs.declared.Shape.{Shape}
 use Rattle.container.specs.Container.{payloadSize, rowsOf}
-use Rattle.path_source.specs.Overhead.{overheadOf}
-use Rattle.path_source.specs.Source.{sendFaults, containerSent, stateAfter, containerSource, Sends}
-use Rattle.path_source.specs.declared.State.{State}
-use Rattle.path_source.specs.declared.Given.{Given}
-use Rattle.path_source.specs.declared.Sent.{Sent}
+use Rattle.container_source.specs.Overhead.{overheadOf}
+use Rattle.container_source.specs.Source.{sendFaults, containerSent, stateAfter, containerSource, Sends}
+use Rattle.container_source.specs.declared.State.{State}
+use Rattle.container_source.specs.declared.Given.{Given}
+use Rattle.container_source.specs.declared.Sent.{Sent}
 
 -- no row of the table applies
 pub record Sendable (s : Shape) (place label : ℕ) (trace : List ℕ) (payload container violations : ℕ) : Type 0 where

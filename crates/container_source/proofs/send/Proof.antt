@@ -1,10 +1,10 @@
--- `path_source::send` meets its contract: a call that is refused leaves all as it was, and any other has what `overhead` and `rows` ask for. Assumes nothing.
+-- `container_source::send` meets its contract: a call that is refused leaves all as it was, and any other has what `overhead` and `rows` ask for. Assumes nothing.
 use native.Mathlib.Omega.{arith}
 use lib.ListN.{length}
-use Rattle.path_source.proofs.SourceLaws.{send-refused, send-done, Sendable, sendable, rows-asks}
+use Rattle.container_source.proofs.SourceLaws.{send-refused, send-done, Sendable, sendable, rows-asks}
 use borrow.Author.Needs.{needs}
-use Rattle.path_source.proofs.send.Statement.{statement}
-use Rattle.path_source.proofs.send.Tie as tie
+use Rattle.container_source.proofs.send.Statement.{statement}
+use Rattle.container_source.proofs.send.Tie as tie
 
 answer-requires : tie.Need-answer-requires
 answer-requires c κs = search needs

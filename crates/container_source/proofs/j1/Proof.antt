@@ -1,8 +1,8 @@
--- `path_source::j1` meets its contract: the start byte at place 0, and a character at any other. Assumes nothing.
-use Rattle.path_source.proofs.OverheadLaws.{j1-start, j1-later}
+-- `container_source::j1` meets its contract: the start byte at place 0, and a character at any other. Assumes nothing.
+use Rattle.container_source.proofs.OverheadLaws.{j1-start, j1-later}
 use borrow.Author.Needs.{needs}
-use Rattle.path_source.proofs.j1.Statement.{statement}
-use Rattle.path_source.proofs.j1.Tie as tie
+use Rattle.container_source.proofs.j1.Statement.{statement}
+use Rattle.container_source.proofs.j1.Tie as tie
 
 slice-aggregate-start-byte : tie.Need-slice-aggregate-start-byte
 slice-aggregate-start-byte c = search needs

@@ -1,8 +1,8 @@
--- `path_source::g1` meets its contract: the violations, and remote defect where it is asked for. Assumes nothing.
-use Rattle.path_source.proofs.OverheadLaws.{g1-remote, g1-clear}
+-- `container_source::g1` meets its contract: the violations, and remote defect where it is asked for. Assumes nothing.
+use Rattle.container_source.proofs.OverheadLaws.{g1-remote, g1-clear}
 use borrow.Author.Needs.{needs}
-use Rattle.path_source.proofs.g1.Statement.{statement}
-use Rattle.path_source.proofs.g1.Tie as tie
+use Rattle.container_source.proofs.g1.Statement.{statement}
+use Rattle.container_source.proofs.g1.Tie as tie
 
 mul-result : tie.Need-mul-result
 mul-result c = search needs

@@ -1,8 +1,8 @@
--- `path_source::answer` meets its contract: the first test that says so decides, in the order of `sendFaults`. Assumes nothing.
-use Rattle.path_source.proofs.SourceLaws.{answer-state, answer-label, answer-trace, answer-payload, answer-container, answer-violations, answer-done}
+-- `container_source::answer` meets its contract: the first test that says so decides, in the order of `sendFaults`. Assumes nothing.
+use Rattle.container_source.proofs.SourceLaws.{answer-state, answer-label, answer-trace, answer-payload, answer-container, answer-violations, answer-done}
 use borrow.Author.Needs.{needs}
-use Rattle.path_source.proofs.answer.Statement.{statement}
-use Rattle.path_source.proofs.answer.Tie as tie
+use Rattle.container_source.proofs.answer.Statement.{statement}
+use Rattle.container_source.proofs.answer.Tie as tie
 
 sub-full : tie.Need-sub-full
 sub-full c = search needs
