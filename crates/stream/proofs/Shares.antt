@@ -10,8 +10,9 @@ use mathlib.Core.Bool.{Bool, true, false}
 use lib.Dec.{eqb, ltb}
 use borrow.Author.Tests.{ltb-true, ltb-false}
 use Rattle.laws.proofs.Tests.{by-test}
-use Rattle.refusals.specs.Refusals.{answerOf, outcome}
+use Rattle.refusals.specs.Refusals.{answerOf}
 use Rattle.refusals.specs.declared.Refusal.{Refusal}
+use Rattle.refusals.specs.declared.Answer.{Answer}
 use Rattle.refusals.specs.declared.Answer.the-variants.{Done, Refused}
 use Rattle.shape.specs.Shape.{Fit, unitLength, heldCount, offsetAfter, runFrom, endedBy}
 use Rattle.shape.specs.declared.Shape.{Shape}
@@ -21,8 +22,8 @@ use Rattle.shape.proofs.Offsets.{held-low, run-begins}
 use Rattle.shape.proofs.Balance.{balance}
 use Rattle.unit.specs.Unit.{headOf, runOf}
 use Rattle.unit.proofs.Writing.{length-head}
-use Rattle.unit_source.specs.Source.{Outcome, Ready, makeFaults, wordSent, unitSent, stateAfter, unitSource}
-use Rattle.unit_source.proofs.Answers.{makable}
+use Rattle.unit_source.specs.Source.{Outcome, Ready, makeFaults, wordSent, unitSent, stateAfter}
+use Rattle.unit_source.proofs.Answers.{makable, source-done, source-refused}
 use Rattle.stream.specs.Stream.{Sending, called, after, shareIn, share, underWay, atEnd, shares, ended, joined, LastSent}
 
 -- ---- the bytes of two containers, cut after k of them
@@ -113,15 +114,18 @@ module _ (s : Shape) (f : Fit s) (box : ℕ → List ℕ) where
   refused-carried x a y = record { bytes = append-nil (underWay s box x) ∙ rw add-zero; whole = sym (zero-mul (s .size)) }
 
   call-carried : (x : Sending) (a : Adjustment) → Carried x a (called s box x a)
-  unfolding unitSource outcome answerOf
-  call-carried x a = go (makeFaults s (x .state) a (length (box (x .number))) (length (box (x .number + 1))) (length (x .unit))) refl
+  call-carried x a = go (answerOf (makeFaults s (x .state) a (length b) (length c) (length (x .unit)))) refl
     where
-      go : (l : List Refusal) → makeFaults s (x .state) a (length (box (x .number))) (length (box (x .number + 1))) (length (x .unit)) ≡ l
-          → Carried x a (outcome l
-          (record { made = record { answer = Done; ended = endedBy a (x .state .offset); state = stateAfter s a (x .state) }; unit = unitSent s a (x .state .offset) (box (x .number)) (box (x .number + 1)) })
-          (λ y. record { made = record { answer = Refused y; ended = 0; state = x .state }; unit = x .unit }))
-      go [] e = unit-carried x a (length (x .unit)) (makable s (x .state) a (length (box (x .number))) (length (box (x .number + 1))) (length (x .unit)) (ap answerOf e) .ready)
-      go (y ∷ l) e = refused-carried x a y
+      b : List ℕ
+      b = box (x .number)
+
+      c : List ℕ
+      c = box (x .number + 1)
+
+      go : (r : Answer) → answerOf (makeFaults s (x .state) a (length b) (length c) (length (x .unit))) ≡ r → Carried x a (called s box x a)
+      go Done e =
+          rw (source-done s (x .state) a b c (x .unit) e) (unit-carried x a (length (x .unit)) (makable s (x .state) a (length b) (length c) (length (x .unit)) e .ready))
+      go (Refused y) e = rw (source-refused s (x .state) a b c (x .unit) y e) (refused-carried x a y)
 
   -- ---- THE STREAM
 
