@@ -2,7 +2,7 @@
 //! in turn with what it is compared to, many times over, and the best of each
 //! is kept. Buffers are in the cache. A ratio of 1.50 means half as slow again.
 //!
-//! Links libcard.a and libprobe.a; built and run by bench/run.
+//! Links libcard.a, libprobe.a and libprobe_sources.a; built and run by bench/run.
 
 #[path = "../tests/proved.rs"]
 mod proved;

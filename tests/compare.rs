@@ -2,7 +2,7 @@
 //! every length about the ones that matter, good bytes, damaged and cut ones,
 //! catalogues with any number of faults, and the sources (tests/sources.rs).
 //!
-//! Links libcard.a and libprobe.a. `compare [SEED]`: the seed is fixed unless
+//! Links libcard.a, libprobe.a and libprobe_sources.a. `compare [SEED]`: the seed is fixed unless
 //! one is given. A case that differs is printed whole, and the seed with it.
 
 #[path = "../second/second.rs"]

@@ -10,7 +10,7 @@ use Rattle.container_source.specs.Source as container-left
 use Rattle.container_source.specs.declared.State as between-containers
 use Rattle.unit_source.specs.Source as unit-left
 use Rattle.unit_source.specs.declared.State as between-units
-use Rattle.probe.specs.Probe.{Probed}
+use Rattle.probe_sources.specs.Probe.{Probed}
 use Rattle.promises.proofs.Determined.{Determines}
 use Rattle.refusals.proofs.number.Kinds as refusals-number
 use Rattle.refusals.proofs.number.Reads as refusals-number-promise
@@ -42,16 +42,16 @@ use Rattle.unit_source.proofs.fresh.Kinds as unit-source-fresh
 use Rattle.unit_source.proofs.fresh.Reads as unit-source-fresh-promise
 use Rattle.unit_source.proofs.unit_source.Kinds as unit-source
 use Rattle.unit_source.proofs.unit_source.Reads as unit-source-promise
-use Rattle.probe.proofs.probe_fresh_container.Kinds as probe-fresh-container
-use Rattle.probe.proofs.probe_fresh_container.Reads as probe-fresh-container-promise
-use Rattle.probe.proofs.probe_fresh_unit.Kinds as probe-fresh-unit
-use Rattle.probe.proofs.probe_fresh_unit.Reads as probe-fresh-unit-promise
-use Rattle.probe.proofs.probe_container.Kinds as probe-container
-use Rattle.probe.proofs.probe_container.Reads as probe-container-promise
-use Rattle.probe.proofs.probe_unit.Kinds as probe-unit
-use Rattle.probe.proofs.probe_unit.Reads as probe-unit-promise
-use Rattle.probe.proofs.probe_payload.Kinds as probe-payload
-use Rattle.probe.proofs.probe_payload.Reads as probe-payload-promise
+use Rattle.probe_sources.proofs.probe_fresh_container.Kinds as probe-fresh-container
+use Rattle.probe_sources.proofs.probe_fresh_container.Reads as probe-fresh-container-promise
+use Rattle.probe_sources.proofs.probe_fresh_unit.Kinds as probe-fresh-unit
+use Rattle.probe_sources.proofs.probe_fresh_unit.Reads as probe-fresh-unit-promise
+use Rattle.probe_sources.proofs.probe_container.Kinds as probe-container
+use Rattle.probe_sources.proofs.probe_container.Reads as probe-container-promise
+use Rattle.probe_sources.proofs.probe_unit.Kinds as probe-unit
+use Rattle.probe_sources.proofs.probe_unit.Reads as probe-unit-promise
+use Rattle.probe_sources.proofs.probe_payload.Kinds as probe-payload
+use Rattle.probe_sources.proofs.probe_payload.Reads as probe-payload-promise
 
 -- ---- refusals
 
@@ -110,7 +110,7 @@ unit-source-fresh-determined κs a x y s t p q = p ∙ sym q
 pub unit-source-determined : Determines {O = unit-left.Outcome} 3 unit-source.ps unit-source.r unit-source-promise.Post (λ κs r e. record { made = r; unit = now (e .1 .1 .1 .1 .0) })
 unit-source-determined κs a x y s t p q = p ∙ sym q
 
--- ---- probe
+-- ---- probe_sources
 
 pub probe-fresh-container-determined : Determines {O = ℕ} 0 probe-fresh-container.ps probe-fresh-container.r probe-fresh-container-promise.Post (λ κs r e. r)
 probe-fresh-container-determined κs a x y s t p q = p ∙ sym q

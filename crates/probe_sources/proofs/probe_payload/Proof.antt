@@ -1,8 +1,8 @@
--- `probe::probe_payload` meets its contract: what the payload call left. Assumes nothing.
-use Rattle.probe.proofs.Packs.{payload-probed}
+-- `probe_sources::probe_payload` meets its contract: what the payload call left. Assumes nothing.
+use Rattle.probe_sources.proofs.Packs.{payload-probed}
 use borrow.Author.Needs.{needs}
-use Rattle.probe.proofs.probe_payload.Statement.{statement}
-use Rattle.probe.proofs.probe_payload.Tie as tie
+use Rattle.probe_sources.proofs.probe_payload.Statement.{statement}
+use Rattle.probe_sources.proofs.probe_payload.Tie as tie
 
 payload-call-requires : tie.Need-payload-call-requires
 payload-call-requires c κs = search needs

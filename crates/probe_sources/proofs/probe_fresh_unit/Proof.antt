@@ -1,8 +1,8 @@
--- `probe::probe_fresh_unit` meets its contract: the fresh state. Assumes nothing.
-use Rattle.probe.proofs.Packs.{unit-packed}
+-- `probe_sources::probe_fresh_unit` meets its contract: the fresh state. Assumes nothing.
+use Rattle.probe_sources.proofs.Packs.{unit-packed}
 use borrow.Author.Needs.{needs}
-use Rattle.probe.proofs.probe_fresh_unit.Statement.{statement}
-use Rattle.probe.proofs.probe_fresh_unit.Tie as tie
+use Rattle.probe_sources.proofs.probe_fresh_unit.Statement.{statement}
+use Rattle.probe_sources.proofs.probe_fresh_unit.Tie as tie
 
 fresh-requires : tie.Need-fresh-requires
 fresh-requires c κs = search needs

@@ -1,9 +1,9 @@
--- `probe::probe_container` meets its contract: what the container source left. Assumes nothing.
-use Rattle.probe.proofs.Packs.{container-probed}
-use Rattle.probe.specs.Probe.{givenOf}
+-- `probe_sources::probe_container` meets its contract: what the container source left. Assumes nothing.
+use Rattle.probe_sources.proofs.Packs.{container-probed}
+use Rattle.probe_sources.specs.Probe.{givenOf}
 use borrow.Author.Needs.{needs}
-use Rattle.probe.proofs.probe_container.Statement.{statement}
-use Rattle.probe.proofs.probe_container.Tie as tie
+use Rattle.probe_sources.proofs.probe_container.Statement.{statement}
+use Rattle.probe_sources.proofs.probe_container.Tie as tie
 
 container-source-requires : tie.Need-container-source-requires
 container-source-requires c κs = search needs

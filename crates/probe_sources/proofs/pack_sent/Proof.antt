@@ -1,8 +1,8 @@
--- `probe::pack_sent` meets its contract: the number and the state. Assumes nothing.
-use Rattle.probe.proofs.Packs.{sent-packed}
+-- `probe_sources::pack_sent` meets its contract: the number and the state. Assumes nothing.
+use Rattle.probe_sources.proofs.Packs.{sent-packed}
 use borrow.Author.Needs.{needs}
-use Rattle.probe.proofs.pack_sent.Statement.{statement}
-use Rattle.probe.proofs.pack_sent.Tie as tie
+use Rattle.probe_sources.proofs.pack_sent.Statement.{statement}
+use Rattle.probe_sources.proofs.pack_sent.Tie as tie
 
 number-requires : tie.Need-number-requires
 number-requires c κs = search needs

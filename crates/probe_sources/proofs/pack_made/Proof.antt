@@ -1,8 +1,8 @@
--- `probe::pack_made` meets its contract: the number, the count and the state. Assumes nothing.
-use Rattle.probe.proofs.Packs.{made-packed}
+-- `probe_sources::pack_made` meets its contract: the number, the count and the state. Assumes nothing.
+use Rattle.probe_sources.proofs.Packs.{made-packed}
 use borrow.Author.Needs.{needs}
-use Rattle.probe.proofs.pack_made.Statement.{statement}
-use Rattle.probe.proofs.pack_made.Tie as tie
+use Rattle.probe_sources.proofs.pack_made.Statement.{statement}
+use Rattle.probe_sources.proofs.pack_made.Tie as tie
 
 number-requires : tie.Need-number-requires
 number-requires c κs = search needs

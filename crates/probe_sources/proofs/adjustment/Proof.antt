@@ -1,8 +1,8 @@
--- `probe::adjustment` meets its contract: each way by its test. Assumes nothing.
+-- `probe_sources::adjustment` meets its contract: each way by its test. Assumes nothing.
 use Rattle.laws.proofs.Tests.{tests}
-use Rattle.probe.specs.Probe.{adjustmentOf}
-use Rattle.probe.proofs.adjustment.Statement.{statement}
-use Rattle.probe.proofs.adjustment.Tie as tie
+use Rattle.probe_sources.specs.Probe.{adjustmentOf}
+use Rattle.probe_sources.proofs.adjustment.Statement.{statement}
+use Rattle.probe_sources.proofs.adjustment.Tie as tie
 
 returns : tie.Need-returns
 unfolding adjustmentOf

@@ -1,10 +1,10 @@
--- `probe::pack_source` meets its contract: two bytes. Assumes nothing.
+-- `probe_sources::pack_source` meets its contract: two bytes. Assumes nothing.
 use mathlib.Core.Path.{refl}
 use native.Mathlib.Omega.{arith}
-use Rattle.probe.specs.Probe.{packedSource}
+use Rattle.probe_sources.specs.Probe.{packedSource}
 use borrow.Author.Needs.{needs}
-use Rattle.probe.proofs.pack_source.Statement.{statement}
-use Rattle.probe.proofs.pack_source.Tie as tie
+use Rattle.probe_sources.proofs.pack_source.Statement.{statement}
+use Rattle.probe_sources.proofs.pack_source.Tie as tie
 
 cast-result : tie.Need-cast-result
 cast-result c = search needs

@@ -1,8 +1,8 @@
--- `probe::probe_unit` meets its contract: what the unit source left. Assumes nothing.
-use Rattle.probe.proofs.Packs.{unit-probed}
+-- `probe_sources::probe_unit` meets its contract: what the unit source left. Assumes nothing.
+use Rattle.probe_sources.proofs.Packs.{unit-probed}
 use borrow.Author.Needs.{needs}
-use Rattle.probe.proofs.probe_unit.Statement.{statement}
-use Rattle.probe.proofs.probe_unit.Tie as tie
+use Rattle.probe_sources.proofs.probe_unit.Statement.{statement}
+use Rattle.probe_sources.proofs.probe_unit.Tie as tie
 
 adjustment-requires : tie.Need-adjustment-requires
 adjustment-requires c κs = search needs

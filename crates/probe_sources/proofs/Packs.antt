@@ -15,7 +15,7 @@ use Rattle.container_source.specs.declared.Sent.{Sent}
 use Rattle.unit_source.specs.Source as units
 use Rattle.unit_source.specs.declared.State as between-units
 use Rattle.unit_source.specs.declared.Made.{Made}
-use Rattle.probe.specs.Probe.{packedSource, packedSent, packedUnit, packedMade, adjustmentOf, Probes, probedSent, probedMade, probedHanded}
+use Rattle.probe_sources.specs.Probe.{packedSource, packedSent, packedUnit, packedMade, adjustmentOf, Probes, probedSent, probedMade, probedHanded}
 
 pub source-packed : (s t : between-containers.State) (n : ℕ) → s ≡ t → n ≡ packedSource s → n ≡ packedSource t
 source-packed s t n e p = p ∙ ap packedSource e

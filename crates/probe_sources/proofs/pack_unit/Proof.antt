@@ -1,10 +1,10 @@
--- `probe::pack_unit` meets its contract: offset and wait. Assumes nothing.
+-- `probe_sources::pack_unit` meets its contract: offset and wait. Assumes nothing.
 use mathlib.Core.Path.{refl}
 use native.Mathlib.Omega.{arith}
-use Rattle.probe.specs.Probe.{packedUnit}
+use Rattle.probe_sources.specs.Probe.{packedUnit}
 use borrow.Author.Needs.{needs}
-use Rattle.probe.proofs.pack_unit.Statement.{statement}
-use Rattle.probe.proofs.pack_unit.Tie as tie
+use Rattle.probe_sources.proofs.pack_unit.Statement.{statement}
+use Rattle.probe_sources.proofs.pack_unit.Tie as tie
 
 cast-result : tie.Need-cast-result
 cast-result c = search needs
