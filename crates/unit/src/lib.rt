@@ -42,6 +42,6 @@ pub fn pour(current: &[u8], next: &[u8], sent: usize, from: usize, unit: &mut [u
     let e = sent + first;
     let mid = from + first;
     let second = room - first;
-    copier::copy(&current[sent..e], &mut unit[from..mid]);
-    copier::copy(&next[..second], &mut unit[mid..]);
+    copier::copy_part(&current[sent..e], &mut unit[from..mid], from);
+    copier::copy_part(&next[..second], &mut unit[mid..], mid);
 }

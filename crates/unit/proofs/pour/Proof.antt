@@ -22,41 +22,41 @@ add-mid c = search needs
 sub-second : tie.Need-sub-second
 sub-second c = search needs
 
-sub-copy : tie.Need-sub-copy
-sub-copy c = search needs
+sub-copy-part : tie.Need-sub-copy-part
+sub-copy-part c = search needs
 
-part-copy-start : tie.Need-part-copy-start
-part-copy-start c = search needs
+part-copy-part-start : tie.Need-part-copy-part-start
+part-copy-part-start c = search needs
 
-part-copy-end : tie.Need-part-copy-end
-part-copy-end c = search needs
+part-copy-part-end : tie.Need-part-copy-part-end
+part-copy-part-end c = search needs
 
-sub-copy-2 : tie.Need-sub-copy-2
-sub-copy-2 c = search needs
+sub-copy-part-2 : tie.Need-sub-copy-part-2
+sub-copy-part-2 c = search needs
 
-part-copy-start-2 : tie.Need-part-copy-start-2
-part-copy-start-2 c = search needs
+part-copy-part-start-2 : tie.Need-part-copy-part-start-2
+part-copy-part-start-2 c = search needs
 
-part-copy-end-2 : tie.Need-part-copy-end-2
-part-copy-end-2 c = search needs
+part-copy-part-end-2 : tie.Need-part-copy-part-end-2
+part-copy-part-end-2 c = search needs
 
-copy-requires : tie.Need-copy-requires
-copy-requires c κs = search needs
+copy-part-requires : tie.Need-copy-part-requires
+copy-part-requires c κs = search needs
 
-slice-aggregate-copy : tie.Need-slice-aggregate-copy
-slice-aggregate-copy c = search second-long fits 20000
+slice-aggregate-copy-part : tie.Need-slice-aggregate-copy-part
+slice-aggregate-copy-part c = search second-long fits 20000
 
-sub-copy-3 : tie.Need-sub-copy-3
-sub-copy-3 c = search needs
+sub-copy-part-3 : tie.Need-sub-copy-part-3
+sub-copy-part-3 c = search needs
 
-part-copy-start-3 : tie.Need-part-copy-start-3
-part-copy-start-3 c = search needs
+part-copy-part-start-3 : tie.Need-part-copy-part-start-3
+part-copy-part-start-3 c = search needs
 
-part-copy-end-3 : tie.Need-part-copy-end-3
-part-copy-end-3 c = search needs
+part-copy-part-end-3 : tie.Need-part-copy-part-end-3
+part-copy-part-end-3 c = search needs
 
-copy-requires-2 : tie.Need-copy-requires-2
-copy-requires-2 c κs = search second-fits fits 20000
+copy-part-requires-2 : tie.Need-copy-part-requires-2
+copy-part-requires-2 c κs = search second-fits fits 20000
 
 same-length : tie.Need-same-length
 same-length c = search needs
@@ -74,17 +74,17 @@ pour-spec =
     add-e
     add-mid
     sub-second
-    sub-copy
-    part-copy-start
-    part-copy-end
-    sub-copy-2
-    part-copy-start-2
-    part-copy-end-2
-    copy-requires
-    slice-aggregate-copy
-    sub-copy-3
-    part-copy-start-3
-    part-copy-end-3
-    copy-requires-2
+    sub-copy-part
+    part-copy-part-start
+    part-copy-part-end
+    sub-copy-part-2
+    part-copy-part-start-2
+    part-copy-part-end-2
+    copy-part-requires
+    slice-aggregate-copy-part
+    sub-copy-part-3
+    part-copy-part-start-3
+    part-copy-part-end-3
+    copy-part-requires-2
     same-length
     returns)
