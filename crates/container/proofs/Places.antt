@@ -80,6 +80,17 @@ getD-rows w (p ∷ overhead) payload (suc r) h k =
     ∙ getD-append-add (take w payload) rest (r * suc w) 0
     ∙ getD-rows w overhead (drop w payload) r (other-rows w (length overhead) payload h) (omega arith)
 
+-- and of any bytes at all: the head of row r is the byte at its place
+pub getD-heads : (w n : ℕ) (c : List ℕ) (r : ℕ) → r < n → getD (headsOf w n c) r 0 ≡ getD c (r * suc w) 0
+unfolding headsOf
+getD-heads w zero c r h = absurd (omega arith)
+getD-heads w (suc n) c zero h = rw (zero-mul (suc w))
+getD-heads w (suc n) c (suc r) h =
+    let m : suc w + r * suc w ≡ suc r * suc w = omega (arith, suc-mul r (suc w)) in
+    getD-heads w n (drop (suc w) c) r (omega arith)
+    ∙ getD-drop (suc w) c (r * suc w) 0
+    ∙ ap (λ (j : ℕ). getD c j 0) m
+
 -- the payload bytes of row r, counted by c from the one after the overhead byte
 pub payload-rows : (w : ℕ) (overhead payload : List ℕ) (r c : ℕ) → length payload ≡ length overhead * w → r < length overhead → c < w → getD (rowsOf w overhead payload) (suc (r * suc w + c)) 0 ≡ getD payload (r * w + c) 0
 unfolding rowsOf
@@ -139,6 +150,12 @@ module _ (columns : ℕ) (overhead payload : List ℕ) (some : 0 < columns) (nin
 
   pub parity-container : parityOf (containerOf columns overhead payload) ≡ bitXor (parityOf overhead) (parityOf payload)
   parity-container = parity-rows (columns - 1) overhead payload rows-full
+
+-- the overhead byte of row r lies at the row's first place
+pub overhead-at : (columns : ℕ) (c : List ℕ) (r : ℕ) → 0 < columns → r < 9 → getD (overheadIn columns c) r 0 ≡ getD c (r * columns) 0
+overhead-at columns c r some h =
+    let one-more : suc (columns - 1) ≡ columns = omega arith in
+    rw one-more at (getD-heads (columns - 1) 9 c r h)
 
 -- every list of the right length is the container of its parts
 pub container-parts : (columns : ℕ) (c : List ℕ) → 0 < columns → length c ≡ 9 * columns → containerOf columns (overheadIn columns c) (payloadIn columns c) ≡ c

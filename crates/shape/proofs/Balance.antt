@@ -1,12 +1,12 @@
 -- The bytes balance: what was sent of the container under way, and the run of a unit, are the containers that end in it and what is then sent of the next.
 -- Every count of containers and bytes follows from this law. Assumes nothing.
 use mathlib.Core.Path.{_≡_}
-use mathlib.Core.Bool.{false, cond}
+use mathlib.Core.Bool.{true, false, cond}
 use Prim.Native.Nat.{ℕ, zero, suc, _≤_, _-_, _+_, _*_}
 use native.Mathlib.Nat.{mul-suc, mul-one}
 use native.Mathlib.Omega.{arith}
-use lib.Dec.{eqb}
-use borrow.Author.Tests.{ne-eqb, eqb-true, eqb-false}
+use lib.Dec.{eqb, ltb}
+use borrow.Author.Tests.{lt-ltb, ne-eqb, ltb-true, ltb-false}
 use Rattle.laws.proofs.Tests.{by-test}
 use Rattle.shape.specs.Shape.{Fit, unitLength, heldCount, upOf, downOf, offsetAfter, runFrom, endedBy}
 use Rattle.shape.specs.declared.Shape.{Shape}
@@ -22,22 +22,24 @@ up-balance : (s : Shape) (v : ℕ) → Fit s → v ≤ s .top → Balanced s (he
 unfolding upOf
 up-balance s zero f h =
     let t = top-some s f in
-    let ne : eqb 0 (s .top) ≡ false = ne-eqb 0 (s .top) (λ e. omega arith) in
-    simp ne (omega (arith, held-none s, held-some s 0, mul-one (s .step), f .two))
+    let low : ltb 0 (s .top) ≡ true = lt-ltb 0 (s .top) t in
+    simp low (omega (arith, held-none s, held-some s 0, mul-one (s .step), f .two))
 up-balance s (suc w) f h =
     let p = place-low s (suc w) f h in
     let m = mul-suc (s .step) w in
     let n = held-some s w in
     let ne : eqb (suc w) 0 ≡ false = ne-eqb (suc w) 0 (λ e. omega arith) in
     simp ne
-    (by-test (λ (a : ℕ). Balanced s (heldCount s (suc w)) (4 * s .step) 1 (heldCount s a)) (eqb (suc w) (s .top))
+    (by-test (λ (a : ℕ). Balanced s (heldCount s (suc w)) (4 * s .step) 1 (heldCount s a)) (ltb (suc w) (s .top))
     (λ e.
-    let full : s .step * suc w + s .step ≡ s .size = rw (eqb-true (suc w) (s .top) e) (omega (arith, f .fills)) in
-    omega (arith, held-none s))
-    (λ e.
-    let l : suc w ≡ s .top → ⊥ = eqb-false (suc w) (s .top) e in
+    let l = ltb-true (suc w) (s .top) e in
     let q : suc w + 1 ≡ suc (suc w) = omega arith in
-    rw q (omega (arith, place-low s (suc (suc w)) f (omega arith), held-some s (suc w), mul-suc (s .step) (suc w)))))
+    rw q (omega (arith, place-low s (suc (suc w)) f (omega arith), held-some s (suc w), mul-suc (s .step) (suc w))))
+    (λ e.
+    let l = ltb-false (suc w) (s .top) e in
+    let at-top : suc w ≡ s .top = omega arith in
+    let full : s .step * suc w + s .step ≡ s .size = rw at-top (omega (arith, f .fills)) in
+    omega (arith, held-none s)))
 
 down-balance : (s : Shape) (v : ℕ) → Fit s → v ≤ s .top → Balanced s (heldCount s v) (2 * s .step) (cond (eqb v 1) 2 1) (heldCount s (downOf (s .top) v))
 unfolding downOf

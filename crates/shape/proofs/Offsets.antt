@@ -3,8 +3,8 @@ use mathlib.Core.Path.{_≡_, refl}
 use Prim.Native.Nat.{ℕ, zero, suc, _≤_, _<_, _-_, _+_, _*_}
 use native.Mathlib.Nat.{mul-le-mul-left, mul-suc, mul-one}
 use native.Mathlib.Omega.{arith}
-use lib.Dec.{eqb}
-use borrow.Author.Tests.{eqb-false, ne-eqb}
+use lib.Dec.{eqb, ltb}
+use borrow.Author.Tests.{ltb-true, ne-eqb}
 use Rattle.laws.proofs.Tests.{by-test}
 use Rattle.shape.specs.Shape.{au4, Fit, placeOf, heldCount, upOf, downOf, offsetAfter, runFrom}
 use Rattle.shape.specs.declared.Shape.{Shape}
@@ -54,7 +54,7 @@ held-low s (suc v) f = omega (arith, held-some s v, mul-suc (s .step) v, f .two)
 pub after-low : (top : ℕ) (a : Adjustment) (v : ℕ) → v ≤ top → offsetAfter top a v ≤ top
 unfolding offsetAfter upOf downOf
 after-low top Nothing v h = h
-after-low top Increment v h = by-test (λ (n : ℕ). n ≤ top) (eqb v top) (λ _. omega arith) (λ e. let ne = eqb-false v top e in omega arith)
+after-low top Increment v h = by-test (λ (n : ℕ). n ≤ top) (ltb v top) (λ e. let l = ltb-true v top e in omega arith) (λ _. omega arith)
 after-low top Decrement v h = by-test (λ (n : ℕ). n ≤ top) (eqb v 0) (λ _. omega arith) (λ _. omega arith)
 
 -- the run begins at H3 or up to a step after byte offset 0

@@ -3,7 +3,7 @@
 use mathlib.Core.Path.{_≡_}
 use Prim.Native.Nat.{ℕ, _+_, _-_, _*_, _≤_, _<_}
 use mathlib.Core.Bool.{cond}
-use lib.Dec.{eqb}
+use lib.Dec.{eqb, ltb}
 use Rattle.shape.specs.declared.Shape.{Shape}
 use Rattle.shape.specs.declared.Adjustment.{Adjustment}
 use Rattle.shape.specs.declared.Adjustment.the-variants.{Nothing, Increment, Decrement}
@@ -39,7 +39,7 @@ heldCount s offset = cond (eqb offset 0) 0 (s .size - placeOf s offset)
 
 -- "782 goes up to 0, and 0 down to 782"
 unfoldable pub upOf : ℕ → ℕ → ℕ
-upOf top offset = cond (eqb offset top) 0 (offset + 1)
+upOf top offset = cond (ltb offset top) (offset + 1) 0
 
 unfoldable pub downOf : ℕ → ℕ → ℕ
 downOf top offset = cond (eqb offset 0) top (offset - 1)

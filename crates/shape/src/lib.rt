@@ -53,10 +53,9 @@ pub fn held_count(shape: Shape, offset: u16) -> usize
 
 // One up, and from the top to 0.
 fn up(top: u16, offset: u16) -> u16
-    requires { ⌜ offset ≤ top ⌝ }
     ensures { λ r. ⌜ r ≡ upOf top offset ⌝ }
 {
-    if offset == top { 0 } else { offset + 1 }
+    if offset < top { offset + 1 } else { 0 }
 }
 
 // One down, and from 0 to the top.
@@ -68,7 +67,6 @@ fn down(top: u16, offset: u16) -> u16
 
 // The offset in the unit of an adjustment, and after it.
 pub fn offset_after(top: u16, a: Adjustment, offset: u16) -> u16
-    requires { ⌜ offset ≤ top ⌝ }
     ensures { λ r. ⌜ r ≡ offsetAfter top a offset ⌝ }
 {
     match a {

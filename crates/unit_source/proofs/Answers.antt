@@ -111,9 +111,6 @@ module _ (s : Shape) (state : State) (a : Adjustment) (current next before : Lis
   pub made-ready : r ≡ Done → Ready s (state .offset) (length current) (length next) (length before)
   made-ready h = makable s state a (length current) (length next) (length before) (sym r-is ∙ h) .ready
 
-  pub made-low : r ≡ Done → state .offset ≤ s .top
-  made-low h = made-ready h .offset-low
-
   pub made-refused : (x : Refusal) → r ≡ Refused x → Makes s state a current next before (record { answer = Refused x; ended = 0; state = state }) before
   made-refused x h = sym (source-refused s state a current next before x (sym r-is ∙ h))
 

@@ -1,10 +1,11 @@
 -- The unit source: one call, as a function of all that it is given. 01, "Layouts", "Reading one pointer word" (its last words, on adjustments) and "Refusal numbers".
 use mathlib.Core.Path.{_≡_}
-use Prim.Native.Nat.{ℕ, _+_, _-_, _≤_, min}
+use Prim.Native.Nat.{ℕ, _-_, _≤_}
 use mathlib.Core.Bool.{Bool, true, false, _&&_, _||_, not}
 use mathlib.Core.List.{List, _++_}
 use lib.Dec.{eqb, ltb}
 use lib.ListN.{length}
+use Rattle.counts.specs.Counts.{more}
 use Rattle.word.specs.Word.{plainWord, invertedWord, bitsI, bitsD}
 use Rattle.refusals.specs.Refusals.{due, outcome}
 use Rattle.refusals.specs.declared.Refusal.{Refusal}
@@ -60,7 +61,7 @@ unitSent s a offset current next =
 
 -- units since the last adjustment, as far as 3
 unfoldable pub waitAfter : Adjustment → ℕ → ℕ
-waitAfter Nothing wait = min (wait + 1) 3
+waitAfter Nothing wait = more wait 3
 waitAfter Increment wait = 0
 waitAfter Decrement wait = 0
 

@@ -1,7 +1,6 @@
 // The unit source: units made out of containers, with the pointer written and adjusted. The definitions stand in specs/Source.antt.
 // The theorems about what it sends are in the crate `stream`.
 ghost use mathlib.Core.Path.{_≡_};
-ghost use Prim.Native.Nat.{_+_, min};
 ghost use lib.ListN.{length};
 ghost use Rattle.shape.specs.Shape.{au4, Fit};
 ghost use Rattle.refusals.specs.Refusals.{answerOf};
@@ -89,18 +88,11 @@ fn write(shape: Shape, a: Adjustment, offset: u16, current: &[u8], next: &[u8], 
     unit::pour(current, next, sent, from, unit);
 }
 
-// One unit more, as far as 3.
-fn one_more(wait: u8) -> u8
-    ensures { λ r. ⌜ r ≡ min (wait + 1) 3 ⌝ }
-{
-    if wait < 3 { wait + 1 } else { 3 }
-}
-
 fn wait_after(a: Adjustment, wait: u8) -> u8
     ensures { λ r. ⌜ r ≡ waitAfter a wait ⌝ }
 {
     match a {
-        Adjustment::Nothing => one_more(wait),
+        Adjustment::Nothing => counts::one_more(wait, 3),
         Adjustment::Increment => 0,
         Adjustment::Decrement => 0,
     }

@@ -1,5 +1,5 @@
 -- `unit_source::make` meets its contract: a call that is refused leaves all as it was, and any other is ready to be written. Assumes nothing.
-use Rattle.unit_source.proofs.Answers.{made-ready, made-low, made-refused, made-done}
+use Rattle.unit_source.proofs.Answers.{made-ready, made-refused, made-done}
 use borrow.Author.Needs.{needs}
 use Rattle.unit_source.proofs.make.Statement.{statement}
 use Rattle.unit_source.proofs.make.Tie as tie
@@ -23,7 +23,7 @@ ended-by-requires : tie.Need-ended-by-requires
 ended-by-requires c κs = search needs
 
 offset-after-requires : tie.Need-offset-after-requires
-offset-after-requires c κs = search made-low
+offset-after-requires c κs = search needs
 
 wait-after-requires : tie.Need-wait-after-requires
 wait-after-requires c κs = search needs
