@@ -1,0 +1,15 @@
+-- `pointer::in_range` meets its contract: it is the definition. Assumes nothing.
+use Rattle.pointer.specs.Machine.{inRange}
+use borrow.Author.Needs.{needs}
+use Rattle.pointer.proofs.in_range.Statement.{statement}
+use Rattle.pointer.proofs.in_range.Tie as tie
+
+is-placed-requires : tie.Need-is-placed-requires
+is-placed-requires c κs = search needs
+
+returns : tie.Need-returns
+unfolding inRange
+returns c = simp (c .before .before .before .before .before .before .is-placed .ensures)
+
+pub in-range-spec : {M : Type 1} → statement M
+in-range-spec = tie.close (tie.spec is-placed-requires returns)
