@@ -1,0 +1,56 @@
+-- A cut stays within the unit and the buffers. Assumes nothing.
+use mathlib.Core.Path.{_≡_}
+use mathlib.Core.Bool.{true}
+use Prim.Native.Nat.{ℕ, _+_, _*_, _≤_}
+use native.Mathlib.Omega.{arith}
+use lib.Dec.{ltb, leb}
+use borrow.Author.Tests.{ltb-true, leb-true, leb-false}
+use Rattle.laws.proofs.Tests.{by-test}
+use Rattle.shape.specs.Shape.{Fit, unitLength}
+use Rattle.shape.specs.declared.Shape.{Shape}
+use Rattle.cut.specs.Cut.{Line, nextOf, insideOf, beginOf, cutOf}
+
+-- a place in the unit, and not before another
+pub record Between (s : Shape) (low place : ℕ) : Type 0 where
+  pub behind : low ≤ place
+  pub within : place ≤ unitLength s
+
+-- a container begins in the unit, and not before H3
+pub next-between : (s : Shape) (kept from : ℕ) → Line s kept from → Between s (2 * s .step) (nextOf s kept from)
+unfolding nextOf
+next-between s kept from l =
+    by-test (λ (n : ℕ). Between s (2 * s .step) n) (ltb 0 kept)
+    (λ e. record { behind = omega (arith, l .behind); within = l .ends-within (ltb-true 0 kept e) })
+    (λ _. record { behind = l .behind; within = l .within })
+
+-- so what is held from it on is no more than a container
+begin-between : (s : Shape) (next : ℕ) → Fit s → Between s (2 * s .step) next → Between s (3 * s .step) (beginOf s next)
+unfolding beginOf insideOf
+begin-between s next f n =
+    by-test (λ (b : ℕ). Between s (3 * s .step) b) (leb next (3 * s .step))
+    (λ e. record { behind = omega (arith, n .behind, f .two); within = omega (arith, leb-true next (3 * s .step) e) })
+    (λ e. record { behind = omega (arith, leb-false next (3 * s .step) e); within = n .within })
+
+module _ (s : Shape) (kept from : ℕ) (l : Line s kept from) where
+  begins : Between s (3 * s .step) (beginOf s (nextOf s kept from))
+  begins = begin-between s (nextOf s kept from) (l .fit) (next-between s kept from l)
+
+  pub next-low : nextOf s kept from ≤ unitLength s
+  next-low = next-between s kept from l .within
+
+  pub begin-low : beginOf s (nextOf s kept from) ≤ unitLength s
+  begin-low = begins .within
+
+  -- the part of the unit that ends inside can be lent
+  pub inside-fits : cutOf s kept from .inside ≡ true → cutOf s kept from .next + s .size ≤ unitLength s
+  unfolding cutOf insideOf
+  inside-fits e = omega (arith, leb-true (nextOf s kept from) (3 * s .step) e)
+
+  -- what is left is the unit's end, and no more than a container
+  pub left-is : unitLength s ≡ cutOf s kept from .begin + cutOf s kept from .left
+  unfolding cutOf
+  left-is = omega (arith, begins .within)
+
+  pub left-low : cutOf s kept from .left ≤ s .size
+  unfolding cutOf
+  left-low = omega (arith, begins .behind)
