@@ -1,0 +1,128 @@
+-- What a unit leaves: the containers that ended, watched in order, and the bytes held. 01, "Reading one pointer word" (its last words), "Containers out of a unit"
+-- and "Defects, actions, causes" ("per container, in order").
+use mathlib.Core.Path.{_≡_}
+use Prim.Native.Nat.{ℕ, _+_, _*_, _<_, _≤_}
+use mathlib.Core.Bool.{Bool, true, false, cond}
+use mathlib.Core.List.{List}
+use lib.ListN.{length}
+use Rattle.shape.specs.Shape.{Fit, unitLength, placeOf, runFrom}
+use Rattle.shape.specs.declared.Shape.{Shape}
+use Rattle.shape.specs.declared.Adjustment.{Adjustment}
+use Rattle.reading.specs.Reading.{restarts, adjustmentOf}
+use Rattle.reading.specs.declared.Taken.{Taken}
+use Rattle.cut.specs.Cut.{Line, Sizes, cutOf, completedOf, insidePart, endedCount, doneOf, heldOf}
+use Rattle.cut.specs.declared.Cut.{Cut}
+use Rattle.monitor.specs.Seeing.{seenIn}
+use Rattle.monitor.specs.Monitoring.{blankOf, seenOf}
+use Rattle.monitor.specs.declared.Monitor.{Monitor}
+use Rattle.monitor.specs.declared.Expected.{Expected}
+use Rattle.monitor.specs.declared.Seen.{Seen}
+use Rattle.receiving.specs.declared.Begin.{Begin}
+use Rattle.receiving.specs.declared.Ended.{Ended}
+use Rattle.receiving.specs.declared.Left.{Left}
+
+-- ---- a restart
+
+-- "New data (even at the same offset) and rule 3 drop the held bytes"
+abbrev pub keptIn : Bool → ℕ → ℕ
+keptIn restart count = cond restart 0 count
+
+-- "and forget the last parity"; all else stays
+unfoldable pub forgot : Taken → Monitor → Monitor
+forgot t m =
+    cond (restarts t)
+    (record { parity = record { known = false; value = 0 }; label = m .label; uneq = m .uneq; rdi = m .rdi; trace = m .trace })
+    m
+
+-- where the run of container bytes begins: what lies before J1 in a restart's unit goes nowhere
+unfoldable pub fromIn : Shape → Bool → Adjustment → ℕ → ℕ
+fromIn s restart a offset = cond restart (3 * s .step + placeOf s offset) (runFrom (s .step) a)
+
+-- where a unit that ends normal at the offset goes on, its word taken as t
+unfoldable pub beginIn : Shape → Taken → ℕ → ℕ → Begin
+beginIn s t offset count = record { kept = keptIn (restarts t) count; from = fromIn s (restarts t) (adjustmentOf t) offset }
+
+-- its cut
+abbrev pub cutIn : Shape → Taken → ℕ → ℕ → Cut
+cutIn s t offset count = cutOf s (beginIn s t offset count .kept) (beginIn s t offset count .from)
+
+-- ---- what ended
+
+-- one container, watched where it ended
+unfoldable pub watched : Bool → ℕ → List ℕ → Expected → Monitor → Seen
+watched ended columns container e m = cond ended (seenOf m (seenIn columns container) e) (record { monitor = m; violations = 0; returned = 0 })
+
+-- "up to two containers end in a unit": where each is, and what is told of it
+unfoldable pub endedIn : Cut → Seen → Seen → Ended
+endedIn c first second =
+    record {
+      number = endedCount c;
+      completed = c .ends;
+      inside = c .inside;
+      place = cond (c .inside) (c .next) 0;
+      first = record { violations = first .violations; returned = first .returned };
+      second = record { violations = second .violations; returned = second .returned };
+    }
+
+-- ---- what a unit leaves
+
+pub record Leaving : Type 0 where
+  pub left : Left
+  pub held : List ℕ
+  pub done : List ℕ
+
+-- "A unit that ends in alarm or lost .. hands back nothing. It clears held count, parity, accepted values, defects, message place and run, the count to 48,
+-- label and defect runs"
+unfoldable pub silence : Left
+silence =
+    record {
+      monitor = blankOf 48;
+      held = 0;
+      ended =
+          record {
+            number = 0;
+            completed = false;
+            inside = false;
+            place = 0;
+            first = record { violations = 0; returned = 0 };
+            second = record { violations = 0; returned = 0 };
+          };
+    }
+
+-- what is seen, of the container completed in the done buffer and then of the one inside the unit
+unfoldable pub bothSeen : Shape → Cut → List ℕ → List ℕ → Monitor → Expected → Left
+bothSeen s c completed inside m e =
+    let first = watched (c .ends) (s .columns) completed e m in
+    let second = watched (c .inside) (s .columns) inside e (first .monitor) in
+    record { monitor = second .monitor; held = c .left; ended = endedIn c first second }
+
+-- a unit that ends normal at the offset, its word taken as t, with `count` bytes held before it
+unfoldable pub received : Shape → Taken → ℕ → ℕ → Monitor → Expected → List ℕ → List ℕ → List ℕ → Leaving
+received s t offset count m e unit held done =
+    let c = cutIn s t offset count in
+    record {
+      left = bothSeen s c (completedOf s c unit held) (insidePart s c unit) (forgot t m) e;
+      held = heldOf c unit held;
+      done = doneOf s c unit held done;
+    }
+
+-- ---- the promise, and where it can be given
+
+abbrev pub Leaves : Shape → Taken → ℕ → ℕ → Monitor → Expected → List ℕ → List ℕ → List ℕ → Left → List ℕ → List ℕ → Type 0
+Leaves s t offset count m e unit held done r held′ done′ =
+    _≡_ {A = Leaving} (record { left = r; held = held′; done = done′ }) (received s t offset count m e unit held done)
+
+pub record Watchable (ended : Bool) (columns : ℕ) (container : List ℕ) : Type 0 where
+  pub some : 0 < columns
+  pub long : ended ≡ true → 3 * columns < length container
+
+pub record Seeable (s : Shape) (c : Cut) (unit done : List ℕ) : Type 0 where
+  pub fit : Fit s
+  pub done-is : length done ≡ s .size
+  pub within : c .inside ≡ true → c .next + s .size ≤ length unit
+  pub low : length unit ≡ unitLength s
+
+pub record Receivable (s : Shape) (t : Taken) (offset count : ℕ) (unit held done : List ℕ) : Type 0 where
+  pub low : offset ≤ s .top
+  pub line : Line s (beginIn s t offset count .kept) (beginIn s t offset count .from)
+  pub sizes : Sizes s unit held done

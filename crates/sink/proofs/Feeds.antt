@@ -1,0 +1,168 @@
+-- Laws of one unit: that its parts have what they ask for, and that they come to the definition. Assumes nothing.
+use mathlib.Core.Path.{_≡_, refl, sym, ap, _∙_}
+use mathlib.Core.Bool.{Bool, true, false, cond, not, _&&_}
+use mathlib.Core.List.{List}
+use Prim.Native.Nat.{ℕ, _≤_, _<_}
+use native.Mathlib.Omega.{arith}
+use lib.ListN.{length, getD}
+use Rattle.word.specs.Word.{wordOf}
+use Rattle.refusals.specs.Refusals.{answerOf}
+use Rattle.refusals.specs.declared.Refusal.{Refusal}
+use Rattle.refusals.specs.declared.Answer.{Answer}
+use Rattle.refusals.specs.declared.Answer.the-variants.{Done, Refused}
+use Rattle.refusals.proofs.Wrong.{outcome-done, outcome-refused}
+use Rattle.shape.specs.Shape.{Fit}
+use Rattle.shape.specs.declared.Shape.{Shape}
+use Rattle.reading.specs.Reading.{restarts, adjustmentOf}
+use Rattle.reading.specs.declared.State as reading
+use Rattle.reading.specs.declared.State.the-variants.{Normal, Alarm, Lost}
+use Rattle.pointer.specs.Machine as pointer
+use Rattle.pointer.specs.declared.Pointer.{Pointer}
+use Rattle.pointer.specs.declared.After.{After}
+use Rattle.pointer.proofs.Ranges.{offset-low, step-in-range}
+use Rattle.cut.specs.Cut.{Line}
+use Rattle.cut.proofs.Lines.{line-goes, line-restarts}
+use Rattle.monitor.specs.declared.Expected.{Expected}
+use Rattle.receiving.specs.Receiving.{Leaving, beginIn, fromIn, silence, Receivable, Leaves}
+use Rattle.receiving.specs.declared.Left.{Left}
+use Rattle.report.specs.Report.{defectsOf, ssfOf, actionsOf, causesOf, settledOf, totalOf}
+use Rattle.report.specs.declared.Flags.{Flags}
+use Rattle.report.specs.declared.Defects.{Defects}
+use Rattle.report.specs.declared.Actions.{Actions}
+use Rattle.report.specs.declared.Causes.{Causes}
+use Rattle.sink.specs.Sink.{sinkFaults, wordIn, pointed, leaving, told, refusing, sink, Receives, Fed, Pointed, LeavesAs}
+use Rattle.sink.specs.declared.State.{State}
+use Rattle.sink.specs.declared.Received.{Received}
+use Rattle.sink.proofs.Refuses.{Ranged, ranged, fed}
+
+-- ---- the word
+
+pub point-is : (s : Shape) (p : Pointer) (unit : List ℕ) (w : ℕ) (a : After) → w ≡ wordOf (getD unit 0 0) (getD unit (s .step) 0) → a ≡ pointer.stepOf p (s .top) w → a ≡ pointed s p unit
+unfolding pointed
+point-is s p unit w a h k = rw h at k
+
+-- ---- what the unit's parts ask for
+
+module _ (s : Shape) (state : State) (a : After) (unit held done : List ℕ) (p : Pointed s state a unit held done) where
+  in-range : Ranged s state
+  in-range = ranged s state (p .fed .fine)
+
+  pub offset-is-low : pointer.offsetOf (a .pointer .state) ≤ s .top
+  unfolding pointed
+  offset-is-low = rw (p .after-is) (offset-low (s .top) _ (step-in-range (s .top) (state .pointer) (wordIn s unit) (in-range .pointer-in)))
+
+  -- where it goes on, by whether it restarts
+  line-by : (b : Bool) → restarts (a .taken) ≡ b
+      → Line s (cond b 0 (state .held)) (fromIn s b (adjustmentOf (a .taken)) (pointer.offsetOf (a .pointer .state)))
+  unfolding fromIn
+  line-by true h = line-restarts s (pointer.offsetOf (a .pointer .state)) (p .fit) offset-is-low
+  line-by false h =
+      rw (in-range .held-is) (line-goes s (adjustmentOf (a .taken)) (pointer.offsetOf (state .pointer .state)) (p .fit) (offset-low (s .top) (state .pointer) (in-range .pointer-in)))
+
+  pub receivable : (offset : ℕ) (n : Bool) → offset ≡ pointer.offsetOf (a .pointer .state) → n ≡ pointer.isNormal (a .pointer .state) → n ≡ true
+      → Receivable s (a .taken) offset (state .held) unit held done
+  unfolding beginIn
+  receivable offset n o n-is h =
+      record {
+        low = rw o offset-is-low;
+        line = rw o (line-by (restarts (a .taken)) refl);
+        sizes = record { unit-is = p .fed .unit-is; held-is = p .fed .held-is; done-is = p .fed .done-is };
+      }
+
+  -- what it leaves
+  pub leaves-normal : (e : Expected) (n : Bool) (offset : ℕ) (r : Left) (held′ done′ : List ℕ)
+      → n ≡ pointer.isNormal (a .pointer .state) → n ≡ true → offset ≡ pointer.offsetOf (a .pointer .state)
+      → Leaves s (a .taken) offset (state .held) (state .monitor) e unit held done r held′ done′
+      → LeavesAs s state a e unit held done r held′ done′
+  unfolding leaving
+  leaves-normal e n offset r held′ done′ n-is h o l = rw (← n-is, h, ← o) l
+
+  pub leaves-silence : (e : Expected) (n : Bool) (r : Left) → n ≡ pointer.isNormal (a .pointer .state) → n ≡ false → r ≡ silence
+      → LeavesAs s state a e unit held done r held done
+  unfolding leaving
+  leaves-silence e n r n-is h r-is = rw (← n-is, h, r-is) refl
+
+-- ---- what is told
+
+lost-is : (x : reading.State) → (not (pointer.isNormal x) && not (pointer.isAlarm x)) ≡ pointer.isLost x
+unfolding pointer.isNormal pointer.isAlarm pointer.isLost
+lost-is (Normal v) = refl
+lost-is Alarm = refl
+lost-is Lost = refl
+
+ssf-is : (x : reading.State) → not (pointer.isNormal x) ≡ ssfOf (pointer.isAlarm x) (pointer.isLost x)
+unfolding pointer.isNormal pointer.isAlarm pointer.isLost
+ssf-is (Normal v) = refl
+ssf-is Alarm = refl
+ssf-is Lost = refl
+
+pub unit-told : (p : Pointer) (total : ℕ) (left : Left) (e : Expected) (flags : Flags)
+    (normal alarm settled : Bool) (defects : Defects) (actions : Actions) (causes : Causes) (after : ℕ)
+    → normal ≡ pointer.isNormal (p .state) → alarm ≡ pointer.isAlarm (p .state) → defects ≡ defectsOf (left .monitor)
+    → settled ≡ settledOf normal (left .monitor) e → after ≡ totalOf total settled
+    → actions ≡ actionsOf (not normal) defects → causes ≡ causesOf alarm (not normal && not alarm) defects flags
+    → record {
+      answer = Done;
+      state = record { pointer = p; held = left .held; monitor = left .monitor; total = after };
+      ended = left .ended;
+      actions = actions;
+      defects = defects;
+      causes = causes;
+      settled = settled;
+    }
+    ≡ told p total left e flags
+unfolding told
+unit-told p total left e flags normal alarm settled defects actions causes after n a d s t c k =
+    let lost = ap (λ (b : Bool). not b && not (pointer.isAlarm (p .state))) n ∙ lost-is (p .state) in
+    let ssf = ap not n ∙ ssf-is (p .state) in
+    rw (k, c, t, s, d, a, lost, ssf, n) refl
+
+pub told-none : (state : State) (x : Refusal) (none : Left) → none ≡ silence
+    → record {
+      answer = Refused x;
+      state = state;
+      ended = none .ended;
+      actions = record { ssf = false; tsf = false; ais = false; rdi = false };
+      defects = record { uneq = false; tim = false; plm = false; rdi = false };
+      causes = record { ais = false; lop = false; ssf = false; uneq = false; tim = false; rdi = false; plm = false };
+      settled = false;
+    }
+    ≡ refusing state x
+unfolding refusing
+told-none state x none h = rw h refl
+
+-- ---- the call
+
+module _ (s : Shape) (state : State) (e : Expected) (flags : Flags) (unit held done : List ℕ)
+    (r : Answer) (r-is : r ≡ answerOf (sinkFaults s state (e .label) (e .trace) (length unit) (length held) (length done)))
+  where
+    pub feed-refused : (x : Refusal) (q : Received) → r ≡ Refused x → q ≡ refusing state x → Receives s state e flags unit held done q held done
+    unfolding sink
+    feed-refused x q h q-is =
+        rw (outcome-refused (sinkFaults s state (e .label) (e .trace) (length unit) (length held) (length done)) _ _ x (sym r-is ∙ h), q-is) refl
+
+    -- nothing is wrong with it
+    pub feed-fine : r ≡ Done → Fed s state (length unit) (length held) (length done)
+    feed-fine h = fed s state (e .label) (e .trace) (length unit) (length held) (length done) (sym r-is ∙ h)
+
+    -- so that its word is there
+    pub word-there : Fit s → r ≡ Done → s .step < length unit
+    word-there f h = omega (arith, feed-fine h .unit-is, f .some, f .two)
+
+    module _ (h : r ≡ Done) (a : After) (a-is : a ≡ pointed s (state .pointer) unit) where
+      pub feed-pointed : Fit s → Pointed s state a unit held done
+      feed-pointed f = record { fit = f; fed = feed-fine h; after-is = a-is }
+
+      pub feed-done : (left : Left) (held′ done′ : List ℕ) (q : Received) → LeavesAs s state a e unit held done left held′ done′ → q ≡ told (a .pointer) (state .total) left e flags
+          → Receives s state e flags unit held done q held′ done′
+      unfolding sink
+      feed-done left held′ done′ q l q-is =
+          let left-is = ap (λ (x : Leaving). x .left) l in
+          let held-is = ap (λ (x : Leaving). x .held) l in
+          let done-is = ap (λ (x : Leaving). x .done) l in
+          rw (outcome-done (sinkFaults s state (e .label) (e .trace) (length unit) (length held) (length done)) _ _ (sym r-is ∙ h), ← a-is, ← left-is, ← held-is, ← done-is, q-is) refl
+
+-- the shape is fixed by the entry point
+pub feed-as : (s t : Shape) (state : State) (e : Expected) (flags : Flags) (unit held done : List ℕ) (r : Received) (held′ done′ : List ℕ)
+    → s ≡ t → Receives s state e flags unit held done r held′ done′ → Receives t state e flags unit held done r held′ done′
+feed-as s t state e flags unit held done r held′ done′ h p = rw h at p

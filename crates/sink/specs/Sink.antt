@@ -1,0 +1,153 @@
+-- The sink: one call, as a function of all that it is given. 01, from "Reading one pointer word" to "Refusal numbers". Each part is a machine of its own:
+-- how a word is taken (`reading`), the pointer (`pointer`), the cut of a unit (`cut`), what is watched in a container (`monitor`), what a unit leaves (`receiving`),
+-- what is told of it (`report`). Here they are put in order.
+use mathlib.Core.Path.{_≡_}
+use Prim.Native.Nat.{ℕ}
+use mathlib.Core.Bool.{Bool, false, cond, not, _||_}
+use mathlib.Core.List.{List, _++_}
+use lib.Dec.{eqb}
+use lib.ListN.{length, getD}
+use Rattle.word.specs.Word.{wordOf}
+use Rattle.settings.specs.Settings.{labelRefused, traceRefused}
+use Rattle.refusals.specs.Refusals.{due, outcome}
+use Rattle.refusals.specs.declared.Refusal.{Refusal}
+use Rattle.refusals.specs.declared.Refusal.the-variants as wrong
+use Rattle.refusals.specs.declared.Answer.the-variants.{Done, Refused}
+use Rattle.shape.specs.Shape.{Fit, unitLength, heldCount}
+use Rattle.shape.specs.declared.Shape.{Shape}
+use Rattle.pointer.specs.Machine as pointer
+use Rattle.pointer.specs.declared.Pointer.{Pointer}
+use Rattle.pointer.specs.declared.After.{After}
+use Rattle.monitor.specs.Monitoring as monitor
+use Rattle.monitor.specs.declared.Expected.{Expected}
+use Rattle.receiving.specs.Receiving.{Leaving, received, silence}
+use Rattle.receiving.specs.declared.Left.{Left}
+use Rattle.report.specs.Report.{defectsOf, ssfOf, actionsOf, causesOf, settledOf, totalOf}
+use Rattle.report.specs.declared.Flags.{Flags}
+use Rattle.report.specs.declared.Defects.{Defects}
+use Rattle.report.specs.declared.Actions.{Actions}
+use Rattle.report.specs.declared.Causes.{Causes}
+use Rattle.sink.specs.declared.State.{State}
+use Rattle.sink.specs.declared.Received.{Received}
+
+-- "it starts lost, the wait 3, all else 0 or none"
+unfoldable pub freshState : State
+freshState = record { pointer = pointer.fresh; held = 0; monitor = monitor.blankOf 0; total = 0 }
+
+-- ---- what is refused
+
+-- "A normal state's held count is 2349 minus 3 times the offset, or 0 at offset 0; any other state's is 0"
+abbrev pub heldIn : Shape → Pointer → ℕ
+heldIn s p = heldCount s (pointer.offsetOf (p .state))
+
+-- "a state number outside its range, or a held count other than the one above"
+unfoldable pub outOfRange : Shape → State → Bool
+outOfRange s state =
+    not (pointer.inRange (s .top) (state .pointer))
+    || not (monitor.inRange (state .monitor))
+    || not (eqb (state .held) (heldIn s (state .pointer)))
+
+-- all that is wrong with a call: "Sink: 8, 4, 5, 1, 3". Of unit, held and done the lengths count.
+unfoldable pub sinkFaults : Shape → State → ℕ → List ℕ → ℕ → ℕ → ℕ → List Refusal
+sinkFaults s state label trace unit held done =
+    due (outOfRange s state) wrong.State
+    ++ (due (labelRefused label) wrong.Label
+    ++ (due (traceRefused trace) wrong.Trace
+    ++ (due (not (eqb unit (unitLength s))) wrong.Unit
+    ++ due (not (eqb held (s .size)) || not (eqb done (s .size))) wrong.Container)))
+
+-- ---- one unit
+
+-- "H1 Y Y H2 ..": the pointer word of a unit
+abbrev pub wordIn : Shape → List ℕ → ℕ
+wordIn s unit = wordOf (getD unit 0 0) (getD unit (s .step) 0)
+
+-- how its word is taken, and the pointer after it
+unfoldable pub pointed : Shape → Pointer → List ℕ → After
+pointed s p unit = pointer.stepOf p (s .top) (wordIn s unit)
+
+-- what it leaves, a being the pointer after it: "A unit that ends in alarm or lost has SSF and hands back nothing", and writes nothing
+unfoldable pub leaving : Shape → State → After → Expected → List ℕ → List ℕ → List ℕ → Leaving
+leaving s state a e unit held done =
+    cond (pointer.isNormal (a .pointer .state))
+    (received s (a .taken) (pointer.offsetOf (a .pointer .state)) (state .held) (state .monitor) e unit held done)
+    (record { left = silence; held = held; done = done })
+
+-- "Actions and causes are taken at the unit's end", and so are settled and the total
+unfoldable pub told : Pointer → ℕ → Left → Expected → Flags → Received
+told p total left e flags =
+    let alarm = pointer.isAlarm (p .state) in
+    let lost = pointer.isLost (p .state) in
+    let defects = defectsOf (left .monitor) in
+    let settled = settledOf (pointer.isNormal (p .state)) (left .monitor) e in
+    record {
+      answer = Done;
+      state = record { pointer = p; held = left .held; monitor = left .monitor; total = totalOf total settled };
+      ended = left .ended;
+      actions = actionsOf (ssfOf alarm lost) defects;
+      defects = defects;
+      causes = causesOf alarm lost defects flags;
+      settled = settled;
+    }
+
+-- ---- the call
+
+-- all that it leaves: what is answered, and the bytes of held and done
+pub record Outcome : Type 0 where
+  pub received : Received
+  pub held : List ℕ
+  pub done : List ℕ
+
+abbrev pub noActions : Actions
+noActions = record { ssf = false; tsf = false; ais = false; rdi = false }
+
+abbrev pub noDefects : Defects
+noDefects = record { uneq = false; tim = false; plm = false; rdi = false }
+
+abbrev pub noCauses : Causes
+noCauses = record { ais = false; lop = false; ssf = false; uneq = false; tim = false; rdi = false; plm = false }
+
+-- "A refusal returns its number and the old state": it is no unit, and nothing is told of one
+unfoldable pub refusing : State → Refusal → Received
+refusing state x =
+    record {
+      answer = Refused x;
+      state = state;
+      ended = silence .ended;
+      actions = noActions;
+      defects = noDefects;
+      causes = noCauses;
+      settled = false;
+    }
+
+-- THE SINK. "Nothing lent is written" where it refuses.
+unfoldable pub sink : Shape → State → Expected → Flags → List ℕ → List ℕ → List ℕ → Outcome
+sink s state e flags unit held done =
+    let a = pointed s (state .pointer) unit in
+    let l = leaving s state a e unit held done in
+    outcome (sinkFaults s state (e .label) (e .trace) (length unit) (length held) (length done))
+    (record { received = told (a .pointer) (state .total) (l .left) e flags; held = l .held; done = l .done })
+    (λ x. record { received = refusing state x; held = held; done = done })
+
+-- the promise: what is answered, and held and done as they were and as they are left
+abbrev pub Receives : Shape → State → Expected → Flags → List ℕ → List ℕ → List ℕ → Received → List ℕ → List ℕ → Type 0
+Receives s state e flags unit held done r held′ done′ =
+    _≡_ {A = Outcome} (record { received = r; held = held′; done = done′ }) (sink s state e flags unit held done)
+
+-- ---- what the parts of a call are given
+
+-- a call that nothing is wrong with, by its lengths
+pub record Fed (s : Shape) (state : State) (unit held done : ℕ) : Type 0 where
+  pub fine : outOfRange s state ≡ false
+  pub unit-is : unit ≡ unitLength s
+  pub held-is : held ≡ s .size
+  pub done-is : done ≡ s .size
+
+-- one whose word was read
+pub record Pointed (s : Shape) (state : State) (a : After) (unit held done : List ℕ) : Type 0 where
+  pub fit : Fit s
+  pub fed : Fed s state (length unit) (length held) (length done)
+  pub after-is : a ≡ pointed s (state .pointer) unit
+
+abbrev pub LeavesAs : Shape → State → After → Expected → List ℕ → List ℕ → List ℕ → Left → List ℕ → List ℕ → Type 0
+LeavesAs s state a e unit held done r held′ done′ = _≡_ {A = Leaving} (record { left = r; held = held′; done = done′ }) (leaving s state a e unit held done)

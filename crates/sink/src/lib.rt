@@ -1,0 +1,243 @@
+// The sink, the receiving end of a path: what is refused, then pointer, cut, monitor and report, in the paper's order. The definitions stand in specs/Sink.antt.
+// The host feeds it one unit after the other; the view of what ended is in the crate `view`.
+ghost use mathlib.Core.Path.{_≡_};
+ghost use Prim.Native.Nat.{_<_};
+ghost use lib.ListN.{length};
+ghost use Rattle.shape.specs.Shape.{au4, Fit};
+ghost use Rattle.refusals.specs.Refusals.{answerOf};
+ghost use Rattle.sink.specs.Sink.{freshState, outOfRange, sinkFaults, pointed, Pointed, LeavesAs, told, refusing, Receives};
+use monitor::Expected;
+use monitor::Monitor;
+use pointer::After;
+use pointer::Pointer;
+use receiving::Ended;
+use receiving::Left;
+use refusals::Answer;
+use refusals::Refusal;
+use report::Actions;
+use report::Causes;
+use report::Defects;
+use report::Flags;
+use shape::Shape;
+
+// A sink between two units: the pointer, how many bytes are held, what is watched of containers, and the units that ended unsettled since the fresh state.
+pub struct State {
+    pub pointer: Pointer,
+    pub held: usize,
+    pub monitor: Monitor,
+    pub total: u16,
+}
+
+// The answer, and the state from then on; of the unit, what ended, the actions, the defects, the causes, and whether it ended settled. Where the call was
+// refused the state is the old one, and nothing is told of a unit.
+pub struct Received {
+    pub answer: Answer,
+    pub state: State,
+    pub ended: Ended,
+    pub actions: Actions,
+    pub defects: Defects,
+    pub causes: Causes,
+    pub settled: bool,
+}
+
+// A sink that has seen nothing.
+pub fn fresh() -> State
+    ensures { λ r. ⌜ r ≡ freshState ⌝ }
+{
+    State {
+        pointer: pointer::fresh(),
+        held: 0,
+        monitor: monitor::blank(0),
+        total: 0,
+    }
+}
+
+fn out_of_range(shape: Shape, s: State) -> bool
+    requires { ⌜ Fit shape ⌝ }
+    ensures { λ r. ⌜ r ≡ outOfRange shape s ⌝ }
+{
+    let p = s.pointer;
+    let m = s.monitor;
+    if !pointer::in_range(shape.top, p) {
+        return true;
+    }
+    if !monitor::in_range(m) {
+        return true;
+    }
+    let state = p.state;
+    let count = shape::held_count(shape, pointer::offset(state));
+    s.held != count
+}
+
+// The answer to a call, by its state and settings, and the lengths of what it is lent.
+fn answer(shape: Shape, s: State, e: Expected, unit: usize, held: usize, done: usize) -> Answer
+    requires { ⌜ Fit shape ⌝ }
+    ensures { λ r. ⌜ r ≡ answerOf (sinkFaults shape s (e .label) (e .trace) unit held done) ⌝ }
+{
+    let characters = e.trace;
+    if out_of_range(shape, s) {
+        return Answer::Refused(Refusal::State);
+    }
+    if settings::label_refused(e.label) {
+        return Answer::Refused(Refusal::Label);
+    }
+    if settings::trace_refused(&characters) {
+        return Answer::Refused(Refusal::Trace);
+    }
+    if unit != 3 * shape.step + shape.size {
+        return Answer::Refused(Refusal::Unit);
+    }
+    if (held != shape.size) | (done != shape.size) {
+        return Answer::Refused(Refusal::Container);
+    }
+    Answer::Done
+}
+
+// The unit's word, read: how it is taken, and the pointer after it.
+fn point(shape: Shape, p: Pointer, unit: &[u8]) -> After
+    requires { ⌜ shape .step < length (now unit) ⌝ }
+    ensures { λ r. ⌜ r ≡ pointed shape p (now (unit .entry)) ⌝ }
+{
+    let second = shape.step;
+    let w = word::of(unit[0], unit[second]);
+    pointer::step(p, shape.top, w)
+}
+
+// What the unit leaves, a being the pointer after it.
+fn leave(
+    shape: Shape,
+    s: State,
+    a: After,
+    e: Expected,
+    unit: &[u8],
+    held: &mut [u8],
+    done: &mut [u8],
+) -> Left
+    requires { ⌜ Pointed shape s a (now unit) (now held) (now done) ⌝ }
+    ensures { λ r. ⌜ LeavesAs shape s a e (now (unit .entry)) (now (held .entry)) (now (done .entry)) r (now (held .exit)) (now (done .exit)) ⌝ }
+{
+    let p = a.pointer;
+    let state = p.state;
+    if pointer::normal(state) {
+        let t = a.taken;
+        let m = s.monitor;
+        return receiving::receive(
+            shape,
+            t,
+            pointer::offset(state),
+            s.held,
+            m,
+            e,
+            unit,
+            held,
+            done,
+        );
+    }
+    receiving::silence()
+}
+
+// What is told of the unit at its end.
+fn tell(p: Pointer, total: u16, left: Left, e: Expected, flags: Flags) -> Received
+    ensures { λ r. ⌜ r ≡ told p total left e flags ⌝ }
+{
+    let state = p.state;
+    let normal = pointer::normal(state);
+    let alarm = pointer::alarm(state);
+    let m = left.monitor;
+    let ended = left.ended;
+    let defects = report::defects_of(m);
+    let settled = report::settled(normal, m, e);
+    let s = State {
+        pointer: p,
+        held: left.held,
+        monitor: m,
+        total: report::total_after(total, settled),
+    };
+    Received {
+        answer: Answer::Done,
+        state: s,
+        ended,
+        actions: report::actions_of(!normal, defects),
+        defects,
+        causes: report::causes_of(alarm, !normal & !alarm, defects, flags),
+        settled,
+    }
+}
+
+// Nothing is told of a unit.
+fn refuse(s: State, x: Refusal) -> Received
+    ensures { λ r. ⌜ r ≡ refusing s x ⌝ }
+{
+    let none = receiving::silence();
+    let ended = none.ended;
+    Received {
+        answer: Answer::Refused(x),
+        state: s,
+        ended,
+        actions: Actions {
+            ssf: false,
+            tsf: false,
+            ais: false,
+            rdi: false,
+        },
+        defects: Defects {
+            uneq: false,
+            tim: false,
+            plm: false,
+            rdi: false,
+        },
+        causes: Causes {
+            ais: false,
+            lop: false,
+            ssf: false,
+            uneq: false,
+            tim: false,
+            rdi: false,
+            plm: false,
+        },
+        settled: false,
+    }
+}
+
+// One unit of any shape.
+fn feed(
+    shape: Shape,
+    s: State,
+    e: Expected,
+    flags: Flags,
+    unit: &[u8],
+    held: &mut [u8],
+    done: &mut [u8],
+) -> Received
+    requires { ⌜ Fit shape ⌝ }
+    ensures { λ r. ⌜ Receives shape s e flags (now (unit .entry)) (now (held .entry)) (now (done .entry)) r (now (held .exit)) (now (done .exit)) ⌝ }
+{
+    match answer(shape, s, e, unit.len(), held.len(), done.len()) {
+        Answer::Refused(x) => {
+            return refuse(s, x);
+        }
+        Answer::Done => {}
+    }
+    let before = s.pointer;
+    let a = point(shape, before, unit);
+    let left = leave(shape, s, a, e, unit, held, done);
+    let after = a.pointer;
+    tell(after, s.total, left, e, flags)
+}
+
+// The next unit of an AU-4. Refuses 8, 4, 5, 1, 3.
+pub fn sink(
+    s: State,
+    label: u8,
+    characters: &[u8; 15],
+    flags: Flags,
+    unit: &[u8],
+    held: &mut [u8],
+    done: &mut [u8],
+) -> Received
+    ensures { λ r. ⌜ Receives au4 s (record { label = label; trace = now (characters .entry) }) flags (now (unit .entry)) (now (held .entry)) (now (done .entry)) r (now (held .exit)) (now (done .exit)) ⌝ }
+{
+    let trace = *characters;
+    let e = Expected { label, trace };
+    feed(shape::au4(), s, e, flags, unit, held, done)
+}
