@@ -1,2 +1,3 @@
 pub mod Determined
 pub mod Sources
+pub mod Received

@@ -1,0 +1,235 @@
+-- The promises of the sink, and of all that it rests on, allow one outcome each: the answer, the new state and every byte that was lent, refused calls too.
+-- Determined.antt says how this is read off the contracts; of `view::of` alone it is said of what its contract cites. Assumes nothing.
+use mathlib.Core.Path.{_≡_, sym, _∙_}
+use mathlib.Core.Bool.{Bool}
+use mathlib.Core.List.{List}
+use Prim.Native.Nat.{ℕ}
+use denote.Ref.{now}
+use Rattle.shape.specs.declared.Adjustment.{Adjustment}
+use Rattle.reading.specs.declared.Run.{Run}
+use Rattle.reading.specs.declared.Taken.{Taken}
+use Rattle.pointer.specs.declared.Pointer.{Pointer}
+use Rattle.pointer.specs.declared.After.{After}
+use Rattle.cut.specs.declared.Cut.{Cut}
+use Rattle.view.specs.View.{Views}
+use Rattle.view.proofs.Parts.{one-view}
+use Rattle.overhead.specs.declared.Label.{Label}
+use Rattle.overhead.specs.declared.Defect.{Defect}
+use Rattle.message.specs.declared.Trace.{Trace}
+use Rattle.monitor.specs.declared.Overhead.{Overhead}
+use Rattle.monitor.specs.declared.Monitor.{Monitor}
+use Rattle.monitor.specs.declared.Seen.{Seen}
+use Rattle.report.specs.declared.Defects.{Defects}
+use Rattle.report.specs.declared.Actions.{Actions}
+use Rattle.report.specs.declared.Causes.{Causes}
+use Rattle.receiving.specs.Receiving.{Leaving}
+use Rattle.receiving.specs.declared.Left.{Left}
+use Rattle.sink.specs.Sink.{Outcome}
+use Rattle.sink.specs.declared.State.{State}
+use Rattle.promises.proofs.Determined.{Determines}
+use Rattle.counts.proofs.one_more.Kinds as counts-one-more
+use Rattle.counts.proofs.one_more.Reads as counts-one-more-promise
+use Rattle.counts.proofs.run_on.Kinds as counts-run-on
+use Rattle.counts.proofs.run_on.Reads as counts-run-on-promise
+use Rattle.reading.proofs.run_after.Kinds as reading-run-after
+use Rattle.reading.proofs.run_after.Reads as reading-run-after-promise
+use Rattle.reading.proofs.take.Kinds as reading-take
+use Rattle.reading.proofs.take.Reads as reading-take-promise
+use Rattle.reading.proofs.restarts.Kinds as reading-restarts
+use Rattle.reading.proofs.restarts.Reads as reading-restarts-promise
+use Rattle.reading.proofs.adjustment_of.Kinds as reading-adjustment-of
+use Rattle.reading.proofs.adjustment_of.Reads as reading-adjustment-of-promise
+use Rattle.pointer.proofs.fresh.Kinds as pointer-fresh
+use Rattle.pointer.proofs.fresh.Reads as pointer-fresh-promise
+use Rattle.pointer.proofs.step.Kinds as pointer-step
+use Rattle.pointer.proofs.step.Reads as pointer-step-promise
+use Rattle.pointer.proofs.in_range.Kinds as pointer-in-range
+use Rattle.pointer.proofs.in_range.Reads as pointer-in-range-promise
+use Rattle.pointer.proofs.normal.Kinds as pointer-normal
+use Rattle.pointer.proofs.normal.Reads as pointer-normal-promise
+use Rattle.pointer.proofs.alarm.Kinds as pointer-alarm
+use Rattle.pointer.proofs.alarm.Reads as pointer-alarm-promise
+use Rattle.pointer.proofs.offset.Kinds as pointer-offset
+use Rattle.pointer.proofs.offset.Reads as pointer-offset-promise
+use Rattle.cut.proofs.cut_unit.Kinds as cut-unit
+use Rattle.cut.proofs.cut_unit.Reads as cut-unit-promise
+use Rattle.overhead.proofs.violations.Kinds as overhead-violations
+use Rattle.overhead.proofs.violations.Reads as overhead-violations-promise
+use Rattle.overhead.proofs.fits.Kinds as overhead-fits
+use Rattle.overhead.proofs.fits.Reads as overhead-fits-promise
+use Rattle.overhead.proofs.label_step.Kinds as overhead-label-step
+use Rattle.overhead.proofs.label_step.Reads as overhead-label-step-promise
+use Rattle.overhead.proofs.defect_step.Kinds as overhead-defect-step
+use Rattle.overhead.proofs.defect_step.Reads as overhead-defect-step-promise
+use Rattle.overhead.proofs.remote.Kinds as overhead-remote
+use Rattle.overhead.proofs.remote.Reads as overhead-remote-promise
+use Rattle.overhead.proofs.returned.Kinds as overhead-returned
+use Rattle.overhead.proofs.returned.Reads as overhead-returned-promise
+use Rattle.message.proofs.trace_step.Kinds as message-trace-step
+use Rattle.message.proofs.trace_step.Reads as message-trace-step-promise
+use Rattle.message.proofs.blank.Kinds as message-blank
+use Rattle.message.proofs.blank.Reads as message-blank-promise
+use Rattle.monitor.proofs.see.Kinds as monitor-see
+use Rattle.monitor.proofs.see.Reads as monitor-see-promise
+use Rattle.monitor.proofs.blank.Kinds as monitor-blank
+use Rattle.monitor.proofs.blank.Reads as monitor-blank-promise
+use Rattle.monitor.proofs.in_range.Kinds as monitor-in-range
+use Rattle.monitor.proofs.in_range.Reads as monitor-in-range-promise
+use Rattle.monitor.proofs.step.Kinds as monitor-step
+use Rattle.monitor.proofs.step.Reads as monitor-step-promise
+use Rattle.report.proofs.defects_of.Kinds as report-defects-of
+use Rattle.report.proofs.defects_of.Reads as report-defects-of-promise
+use Rattle.report.proofs.actions_of.Kinds as report-actions-of
+use Rattle.report.proofs.actions_of.Reads as report-actions-of-promise
+use Rattle.report.proofs.causes_of.Kinds as report-causes-of
+use Rattle.report.proofs.causes_of.Reads as report-causes-of-promise
+use Rattle.report.proofs.settled.Kinds as report-settled
+use Rattle.report.proofs.settled.Reads as report-settled-promise
+use Rattle.report.proofs.total_after.Kinds as report-total-after
+use Rattle.report.proofs.total_after.Reads as report-total-after-promise
+use Rattle.receiving.proofs.silence.Kinds as receiving-silence
+use Rattle.receiving.proofs.silence.Reads as receiving-silence-promise
+use Rattle.receiving.proofs.receive.Kinds as receiving-receive
+use Rattle.receiving.proofs.receive.Reads as receiving-receive-promise
+use Rattle.sink.proofs.fresh.Kinds as sink-fresh
+use Rattle.sink.proofs.fresh.Reads as sink-fresh-promise
+use Rattle.sink.proofs.sink.Kinds as sink
+use Rattle.sink.proofs.sink.Reads as sink-promise
+
+-- ---- counts
+
+pub counts-one-more-determined : Determines {O = ℕ} 0 counts-one-more.ps counts-one-more.r counts-one-more-promise.Post (λ κs r e. r)
+counts-one-more-determined κs a x y s t p q = p ∙ sym q
+
+pub counts-run-on-determined : Determines {O = ℕ} 0 counts-run-on.ps counts-run-on.r counts-run-on-promise.Post (λ κs r e. r)
+counts-run-on-determined κs a x y s t p q = p ∙ sym q
+
+-- ---- reading
+
+pub reading-run-after-determined : Determines {O = Run} 0 reading-run-after.ps reading-run-after.r reading-run-after-promise.Post (λ κs r e. r)
+reading-run-after-determined κs a x y s t p q = p ∙ sym q
+
+pub reading-take-determined : Determines {O = Taken} 0 reading-take.ps reading-take.r reading-take-promise.Post (λ κs r e. r)
+reading-take-determined κs a x y s t p q = p ∙ sym q
+
+pub reading-restarts-determined : Determines {O = Bool} 0 reading-restarts.ps reading-restarts.r reading-restarts-promise.Post (λ κs r e. r)
+reading-restarts-determined κs a x y s t p q = p ∙ sym q
+
+pub reading-adjustment-of-determined : Determines {O = Adjustment} 0 reading-adjustment-of.ps reading-adjustment-of.r reading-adjustment-of-promise.Post (λ κs r e. r)
+reading-adjustment-of-determined κs a x y s t p q = p ∙ sym q
+
+-- ---- pointer
+
+pub pointer-fresh-determined : Determines {O = Pointer} 0 pointer-fresh.ps pointer-fresh.r pointer-fresh-promise.Post (λ κs r e. r)
+pointer-fresh-determined κs a x y s t p q = p ∙ sym q
+
+pub pointer-step-determined : Determines {O = After} 0 pointer-step.ps pointer-step.r pointer-step-promise.Post (λ κs r e. r)
+pointer-step-determined κs a x y s t p q = p ∙ sym q
+
+pub pointer-in-range-determined : Determines {O = Bool} 0 pointer-in-range.ps pointer-in-range.r pointer-in-range-promise.Post (λ κs r e. r)
+pointer-in-range-determined κs a x y s t p q = p ∙ sym q
+
+pub pointer-normal-determined : Determines {O = Bool} 0 pointer-normal.ps pointer-normal.r pointer-normal-promise.Post (λ κs r e. r)
+pointer-normal-determined κs a x y s t p q = p ∙ sym q
+
+pub pointer-alarm-determined : Determines {O = Bool} 0 pointer-alarm.ps pointer-alarm.r pointer-alarm-promise.Post (λ κs r e. r)
+pointer-alarm-determined κs a x y s t p q = p ∙ sym q
+
+pub pointer-offset-determined : Determines {O = ℕ} 0 pointer-offset.ps pointer-offset.r pointer-offset-promise.Post (λ κs r e. r)
+pointer-offset-determined κs a x y s t p q = p ∙ sym q
+
+-- ---- cut
+
+-- one unit: its cut, and the bytes of held and done after it
+pub record UnitCut : Type 0 where
+  pub cut : Cut
+  pub held : List ℕ
+  pub done : List ℕ
+
+unit-cut-same : {c c′ : Cut} {h h′ d d′ : List ℕ} → c ≡ c′ → h ≡ h′ → d ≡ d′ → _≡_ {A = UnitCut} (record { cut = c; held = h; done = d }) (record { cut = c′; held = h′; done = d′ })
+unit-cut-same x y z = rw (x, y, z)
+
+pub cut-unit-determined : Determines {O = UnitCut} 3 cut-unit.ps cut-unit.r cut-unit-promise.Post (λ κs r e. record { cut = r; held = now (e .1 .1 .1 .1 .0); done = now (e .1 .1 .1 .1 .1 .0) })
+cut-unit-determined κs a x y s t p q = unit-cut-same (p .cut-is ∙ sym (q .cut-is)) (p .held-is ∙ sym (q .held-is)) (p .done-is ∙ sym (q .done-is))
+
+-- ---- view
+
+-- a view holds two lent slices: `of` is proved by a walk, and has no `Post` to be read. Its `ensures` is `Views` of the bytes of both, and of that this is said
+pub view-of-determined : (done unit : List ℕ) (completed inside : Bool) (place size : ℕ) (first second first′ second′ : List ℕ)
+    → Views done unit completed inside place size first second → Views done unit completed inside place size first′ second′ → (first ≡ first′) × (second ≡ second′)
+view-of-determined = one-view
+
+-- ---- overhead
+
+pub overhead-violations-determined : Determines {O = ℕ} 0 overhead-violations.ps overhead-violations.r overhead-violations-promise.Post (λ κs r e. r)
+overhead-violations-determined κs a x y s t p q = p ∙ sym q
+
+pub overhead-fits-determined : Determines {O = Bool} 0 overhead-fits.ps overhead-fits.r overhead-fits-promise.Post (λ κs r e. r)
+overhead-fits-determined κs a x y s t p q = p ∙ sym q
+
+pub overhead-label-step-determined : Determines {O = Label} 0 overhead-label-step.ps overhead-label-step.r overhead-label-step-promise.Post (λ κs r e. r)
+overhead-label-step-determined κs a x y s t p q = p ∙ sym q
+
+pub overhead-defect-step-determined : Determines {O = Defect} 0 overhead-defect-step.ps overhead-defect-step.r overhead-defect-step-promise.Post (λ κs r e. r)
+overhead-defect-step-determined κs a x y s t p q = p ∙ sym q
+
+pub overhead-remote-determined : Determines {O = Bool} 0 overhead-remote.ps overhead-remote.r overhead-remote-promise.Post (λ κs r e. r)
+overhead-remote-determined κs a x y s t p q = p ∙ sym q
+
+pub overhead-returned-determined : Determines {O = ℕ} 0 overhead-returned.ps overhead-returned.r overhead-returned-promise.Post (λ κs r e. r)
+overhead-returned-determined κs a x y s t p q = p ∙ sym q
+
+-- ---- message
+
+pub message-trace-step-determined : Determines {O = Trace} 0 message-trace-step.ps message-trace-step.r message-trace-step-promise.Post (λ κs r e. r)
+message-trace-step-determined κs a x y s t p q = p ∙ sym q
+
+pub message-blank-determined : Determines {O = Trace} 0 message-blank.ps message-blank.r message-blank-promise.Post (λ κs r e. r)
+message-blank-determined κs a x y s t p q = p ∙ sym q
+
+-- ---- monitor
+
+pub monitor-see-determined : Determines {O = Overhead} 1 monitor-see.ps monitor-see.r monitor-see-promise.Post (λ κs r e. r)
+monitor-see-determined κs a x y s t p q = p ∙ sym q
+
+pub monitor-blank-determined : Determines {O = Monitor} 0 monitor-blank.ps monitor-blank.r monitor-blank-promise.Post (λ κs r e. r)
+monitor-blank-determined κs a x y s t p q = p ∙ sym q
+
+pub monitor-in-range-determined : Determines {O = Bool} 0 monitor-in-range.ps monitor-in-range.r monitor-in-range-promise.Post (λ κs r e. r)
+monitor-in-range-determined κs a x y s t p q = p ∙ sym q
+
+pub monitor-step-determined : Determines {O = Seen} 0 monitor-step.ps monitor-step.r monitor-step-promise.Post (λ κs r e. r)
+monitor-step-determined κs a x y s t p q = p ∙ sym q
+
+-- ---- report
+
+pub report-defects-of-determined : Determines {O = Defects} 0 report-defects-of.ps report-defects-of.r report-defects-of-promise.Post (λ κs r e. r)
+report-defects-of-determined κs a x y s t p q = p ∙ sym q
+
+pub report-actions-of-determined : Determines {O = Actions} 0 report-actions-of.ps report-actions-of.r report-actions-of-promise.Post (λ κs r e. r)
+report-actions-of-determined κs a x y s t p q = p ∙ sym q
+
+pub report-causes-of-determined : Determines {O = Causes} 0 report-causes-of.ps report-causes-of.r report-causes-of-promise.Post (λ κs r e. r)
+report-causes-of-determined κs a x y s t p q = p ∙ sym q
+
+pub report-settled-determined : Determines {O = Bool} 0 report-settled.ps report-settled.r report-settled-promise.Post (λ κs r e. r)
+report-settled-determined κs a x y s t p q = p ∙ sym q
+
+pub report-total-after-determined : Determines {O = ℕ} 0 report-total-after.ps report-total-after.r report-total-after-promise.Post (λ κs r e. r)
+report-total-after-determined κs a x y s t p q = p ∙ sym q
+
+-- ---- receiving
+
+pub receiving-silence-determined : Determines {O = Left} 0 receiving-silence.ps receiving-silence.r receiving-silence-promise.Post (λ κs r e. r)
+receiving-silence-determined κs a x y s t p q = p ∙ sym q
+
+pub receiving-receive-determined : Determines {O = Leaving} 3 receiving-receive.ps receiving-receive.r receiving-receive-promise.Post (λ κs r e. record { left = r; held = now (e .1 .1 .1 .1 .1 .1 .1 .0); done = now (e .1 .1 .1 .1 .1 .1 .1 .1 .0) })
+receiving-receive-determined κs a x y s t p q = p ∙ sym q
+
+-- ---- sink
+
+pub sink-fresh-determined : Determines {O = State} 0 sink-fresh.ps sink-fresh.r sink-fresh-promise.Post (λ κs r e. r)
+sink-fresh-determined κs a x y s t p q = p ∙ sym q
+
+pub sink-determined : Determines {O = Outcome} 4 sink.ps sink.r sink-promise.Post (λ κs r e. record { received = r; held = now (e .1 .1 .1 .1 .1 .0); done = now (e .1 .1 .1 .1 .1 .1 .0) })
+sink-determined κs a x y s t p q = p ∙ sym q
