@@ -1,13 +1,15 @@
 //! The second program on the command line: catalogue or bytes on standard
 //! input, the answer on standard output.
 
+mod bench;
 mod second;
 
 use std::env;
 use std::io::{self, Read, Write};
 use std::process::ExitCode;
 
-const USAGE: &str = "usage: second list | parity | check | read | lookup N  (bytes on standard input)";
+const USAGE: &str = "usage: second list | parity | check | read | lookup N  (bytes on standard input)
+       second bench [--rules]  (a script on standard input)";
 
 /// All of standard input.
 fn input() -> io::Result<Vec<u8>> {
@@ -54,6 +56,36 @@ fn lookup_text(bytes: &[u8], circuit: u32) -> String {
     }
 }
 
+/// A script from standard input run line by line; at its end, where asked, the
+/// count of each rule's cases on standard error.
+fn bench(rules: bool) -> io::Result<()> {
+    let mut script = Vec::new();
+    let most = bench::LONGEST_SCRIPT as u64 + 1;
+    io::stdin().lock().take(most).read_to_end(&mut script)?;
+    let mut output = io::BufWriter::new(io::stdout().lock());
+    let mut counts = bench::Counts::new();
+    if script.len() > bench::LONGEST_SCRIPT {
+        writeln!(output, "script above {} bytes", bench::LONGEST_SCRIPT)?;
+    } else {
+        let mut path = bench::Bench::new();
+        let mut said = Vec::new();
+        for (index, line) in bench::lines(&script).enumerate() {
+            if rules {
+                path.line(line, index + 1, &mut said, &mut |name| counts.note(name));
+            } else {
+                path.line(line, index + 1, &mut said, &mut |_| {});
+            }
+            output.write_all(&said)?;
+            said.clear();
+        }
+    }
+    output.flush()?;
+    if rules {
+        io::stderr().lock().write_all(counts.text().as_bytes())?;
+    }
+    Ok(())
+}
+
 /// The text for these arguments, or none where they are not understood.
 fn answer(arguments: &[&str]) -> io::Result<Option<Vec<u8>>> {
     let text = match arguments {
@@ -65,6 +97,14 @@ fn answer(arguments: &[&str]) -> io::Result<Option<Vec<u8>>> {
             Some(circuit) => lookup_text(&catalogue()?, circuit).into_bytes(),
             None => return Ok(None),
         },
+        ["bench"] => {
+            bench(false)?;
+            Vec::new()
+        }
+        ["bench", "--rules"] => {
+            bench(true)?;
+            Vec::new()
+        }
         _ => return Ok(None),
     };
     Ok(Some(text))

@@ -1,7 +1,7 @@
 //! A second program for the parts of the path card that can be asked in bytes
 //! and numbers: parity, trace check, word reading, the pointer words that the
 //! source writes, the container source and the unit source, the payload call,
-//! and the circuit catalogue with its lookup and listing.
+//! the sink, and the circuit catalogue with its lookup and listing.
 //!
 //! Written from the rules paper ("01") alone; only two values in the tests,
 //! said there to be published, come from elsewhere. The words in quotation
@@ -439,6 +439,1062 @@ pub fn unit_source(
         Asked::Increment | Asked::Decrement => 0,
     };
     Ok((ended, UnitSource { offset, wait }))
+}
+
+// ---------------------------------------------------------------------------
+// Sink: the pointer word
+// ---------------------------------------------------------------------------
+
+/// Told the name of each case of a rule that is met, so that a test can ask
+/// whether all were (second/bench.rs lists the names). Nothing depends on it.
+pub type Note<'a> = &'a mut dyn FnMut(&'static str);
+
+/// "The state is normal with its offset, alarm or lost". "Its offset is a
+/// pointer value."
+#[derive(Clone, Copy, Debug, PartialEq, Eq)]
+pub enum Pointer {
+    Normal(u16),
+    Alarm,
+    Lost,
+}
+
+/// How a word was taken, by the number of its rule.
+#[derive(Clone, Copy, Debug, PartialEq, Eq)]
+pub enum Taken {
+    /// 1: "FFFF is an alarm word."
+    AlarmWord,
+    /// 2: "Enabled NDF, SS 10, in range: new data."
+    NewData,
+    /// 3: "The run is three or more, and the state is not normal or its offset
+    /// differs".
+    Found,
+    /// 4.
+    Plain,
+    Increment,
+    Decrement,
+    /// 5: "changes nothing and is not invalid".
+    Waiting,
+    /// 6: "All else is invalid."
+    Invalid,
+}
+
+/// Where the counts of the sink stop: "alarm words, alike words, message run,
+/// wait 3; invalid and enabled words 8; label and defect runs 5; message place
+/// 15; containers without a message 48".
+const MOST_ALARM_WORDS: u8 = 3;
+const MOST_ALIKE_WORDS: u8 = 3;
+const MOST_MESSAGES: u8 = 3;
+const MOST_INVALID_WORDS: u8 = 8;
+const MOST_ENABLED_WORDS: u8 = 8;
+const MOST_EQUAL: u8 = 5;
+const MOST_WITHOUT: u8 = 48;
+
+/// One more, up to the end of the range.
+fn up(count: u8, most: u8) -> u8 {
+    if count < most {
+        count + 1
+    } else {
+        most
+    }
+}
+
+/// What the pointer words alone decide.
+#[derive(Clone, Copy, Debug, PartialEq, Eq)]
+pub struct PointerReader {
+    pub state: Pointer,
+    /// FFFF words, new data words and invalid words in a row.
+    pub alarm_words: u8,
+    pub enabled_words: u8,
+    pub invalid_words: u8,
+    /// "The run", and the value of its words.
+    pub run: u8,
+    pub run_value: u16,
+    /// "at least three units lie between this one and the last adjustment or
+    /// new data that ended normal (the wait)".
+    pub wait: u8,
+}
+
+const NDF_NAMES: [&str; 16] = [
+    "word.ndf-0000",
+    "word.ndf-0001",
+    "word.ndf-0010",
+    "word.ndf-0011",
+    "word.ndf-0100",
+    "word.ndf-0101",
+    "word.ndf-0110",
+    "word.ndf-0111",
+    "word.ndf-1000",
+    "word.ndf-1001",
+    "word.ndf-1010",
+    "word.ndf-1011",
+    "word.ndf-1100",
+    "word.ndf-1101",
+    "word.ndf-1110",
+    "word.ndf-1111",
+];
+const SS_NAMES: [&str; 4] = ["word.ss-00", "word.ss-01", "word.ss-10", "word.ss-11"];
+
+impl PointerReader {
+    /// "it starts lost, the wait 3, all else 0 or none".
+    pub fn fresh() -> Self {
+        PointerReader {
+            state: Pointer::Lost,
+            alarm_words: 0,
+            enabled_words: 0,
+            invalid_words: 0,
+            run: 0,
+            run_value: 0,
+            wait: LONGEST_WAIT,
+        }
+    }
+
+    /// Every number is in its range.
+    fn in_range(&self) -> bool {
+        let offset_good = match self.state {
+            Pointer::Normal(offset) => offset <= LAST_VALUE,
+            Pointer::Alarm | Pointer::Lost => true,
+        };
+        offset_good
+            && self.alarm_words <= MOST_ALARM_WORDS
+            && self.enabled_words <= MOST_ENABLED_WORDS
+            && self.invalid_words <= MOST_INVALID_WORDS
+            && self.run <= MOST_ALIKE_WORDS
+            && self.run_value <= LAST_VALUE
+            && self.wait <= LONGEST_WAIT
+    }
+
+    /// Reads one word: "First rule that applies".
+    pub fn read(&mut self, word: u16, note: Note) -> Taken {
+        let before = self.state;
+        let kind = ndf_kind(word >> 12);
+        let ss = (word >> 10) & 0b11;
+        let value = word & VALUE_BITS;
+        let normal_word = kind == 1 && ss == 0b10;
+        let enabled_word = kind == 2 && ss == 0b10;
+        let in_range = value <= LAST_VALUE;
+        note(NDF_NAMES[usize::from(word >> 12)]);
+        note(SS_NAMES[usize::from(ss)]);
+
+        // "The run counts consecutive words with normal NDF, SS 10, value in
+        // range and the same value, however else each was taken."
+        if normal_word && in_range {
+            if self.run > 0 && self.run_value == value {
+                note(if self.run == MOST_ALIKE_WORDS { "run.stops-at-3" } else { "run.grows" });
+                self.run = up(self.run, MOST_ALIKE_WORDS);
+            } else {
+                note(match self.run {
+                    0 => "run.begins",
+                    1 => "run.other-value-after-1",
+                    2 => "run.other-value-after-2",
+                    _ => "run.other-value-after-3",
+                });
+                self.run = 1;
+                self.run_value = value;
+            }
+        } else {
+            if self.run == 2 {
+                note("run.ended-at-2");
+            }
+            self.run = 0;
+            self.run_value = 0;
+        }
+
+        let taken = self.rule(word, normal_word, enabled_word, in_range, value);
+
+        // "Any other kind of word ends a row; rows are counted in lost too."
+        if taken != Taken::AlarmWord && self.alarm_words == 2 {
+            note("row.two-alarm-words-ended");
+        }
+        if taken != Taken::NewData && self.enabled_words == 7 {
+            note("row.seven-new-data-ended");
+        }
+        if taken != Taken::Invalid && self.invalid_words == 7 {
+            note("row.seven-invalid-ended");
+        }
+        let row = |count: u8, kind: Taken, most: u8| if taken == kind { up(count, most) } else { 0 };
+        let (alarm_row, enabled_row, invalid_row) = (self.alarm_words, self.enabled_words, self.invalid_words);
+        self.alarm_words = row(alarm_row, Taken::AlarmWord, MOST_ALARM_WORDS);
+        self.enabled_words = row(enabled_row, Taken::NewData, MOST_ENABLED_WORDS);
+        self.invalid_words = row(invalid_row, Taken::Invalid, MOST_INVALID_WORDS);
+
+        let mut waits_anew = false;
+        match taken {
+            // "Three in a row lead to alarm from any state."
+            Taken::AlarmWord => {
+                if self.alarm_words >= 3 {
+                    note(match before {
+                        Pointer::Normal(_) => "1.to-alarm-from-normal",
+                        Pointer::Alarm => "1.to-alarm-from-alarm",
+                        Pointer::Lost => "1.to-alarm-from-lost",
+                    });
+                    if alarm_row == MOST_ALARM_WORDS {
+                        note("1.count-stops-at-3");
+                    }
+                    self.state = Pointer::Alarm;
+                } else {
+                    note(match before {
+                        Pointer::Normal(_) => "1.fewer-than-three-in-normal",
+                        Pointer::Alarm => "1.fewer-than-three-in-alarm",
+                        Pointer::Lost => "1.fewer-than-three-in-lost",
+                    });
+                }
+            }
+            // "From normal or alarm, normal at that value, but the eighth in a
+            // row leads to lost. In lost it changes nothing."
+            Taken::NewData => {
+                if before == Pointer::Lost {
+                    note(if enabled_row == MOST_ENABLED_WORDS {
+                        "2.in-lost-count-stops-at-8"
+                    } else {
+                        "2.in-lost"
+                    });
+                } else if self.enabled_words >= 8 {
+                    note("2.eighth-to-lost");
+                    self.state = Pointer::Lost;
+                } else {
+                    note(match before {
+                        Pointer::Normal(offset) if offset == value => "2.same-offset",
+                        Pointer::Normal(_) => "2.other-offset",
+                        _ => "2.from-alarm",
+                    });
+                    if self.enabled_words == 7 {
+                        note("2.seventh");
+                    }
+                    self.state = Pointer::Normal(value);
+                    // "new data that ended normal"
+                    waits_anew = true;
+                }
+            }
+            Taken::Found => {
+                note(match before {
+                    Pointer::Normal(_) => "3.other-offset",
+                    Pointer::Alarm => "3.from-alarm",
+                    Pointer::Lost => "3.from-lost",
+                });
+                self.state = Pointer::Normal(value);
+            }
+            Taken::Plain => note(if word >> 12 == 0b0110 { "4.plain" } else { "4.plain-other-ndf" }),
+            // "782 goes up to 0, and 0 down to 782."
+            Taken::Increment | Taken::Decrement => {
+                if let Pointer::Normal(offset) = before {
+                    let (i, d) = inverted(value, offset);
+                    let up_by_one = taken == Taken::Increment;
+                    note(match (up_by_one, offset) {
+                        (true, LAST_VALUE) => "4.increment-782-to-0",
+                        (true, _) => "4.increment",
+                        (false, 0) => "4.decrement-0-to-782",
+                        (false, _) => "4.decrement",
+                    });
+                    note(match (up_by_one, i, d) {
+                        (true, 5, 0) => "4.increment-exact",
+                        (true, 3, _) => "4.increment-by-three",
+                        (true, _, 2) => "4.increment-two-against",
+                        (true, _, _) => "4.increment-most",
+                        (false, 0, 5) => "4.decrement-exact",
+                        (false, _, 3) => "4.decrement-by-three",
+                        (false, 2, _) => "4.decrement-two-against",
+                        (false, _, _) => "4.decrement-most",
+                    });
+                    if !in_range {
+                        note("4.adjusted-by-a-value-out-of-range");
+                    }
+                    self.state = Pointer::Normal(match (up_by_one, offset) {
+                        (true, LAST_VALUE) => 0,
+                        (true, _) => offset + 1,
+                        (false, 0) => LAST_VALUE,
+                        (false, _) => offset - 1,
+                    });
+                }
+                waits_anew = true;
+            }
+            Taken::Waiting => note(if before == Pointer::Alarm { "5.in-alarm" } else { "5.in-lost" }),
+            // "Eight in a row, in normal or alarm, lead to lost."
+            Taken::Invalid => {
+                note(self.why_invalid(before, kind, ss, in_range, value));
+                if self.invalid_words >= 8 && before != Pointer::Lost {
+                    note(if before == Pointer::Alarm {
+                        "6.eighth-to-lost-from-alarm"
+                    } else {
+                        "6.eighth-to-lost-from-normal"
+                    });
+                    self.state = Pointer::Lost;
+                } else {
+                    note(match before {
+                        Pointer::Normal(_) => "6.in-normal",
+                        Pointer::Alarm => "6.in-alarm",
+                        Pointer::Lost if invalid_row == MOST_INVALID_WORDS => "6.in-lost-count-stops-at-8",
+                        Pointer::Lost => "6.in-lost",
+                    });
+                }
+            }
+        }
+        if waits_anew {
+            self.wait = 0;
+        } else {
+            if self.wait == LONGEST_WAIT {
+                note("wait.stops-at-3");
+            }
+            self.wait = up(self.wait, LONGEST_WAIT);
+        }
+        taken
+    }
+
+    /// The rule for a word, with the run already counted.
+    fn rule(&self, word: u16, normal_word: bool, enabled_word: bool, in_range: bool, value: u16) -> Taken {
+        // 1
+        if word == 0xFFFF {
+            return Taken::AlarmWord;
+        }
+        // 2
+        if enabled_word && in_range {
+            return Taken::NewData;
+        }
+        // 3
+        if self.run >= 3 && self.state != Pointer::Normal(value) {
+            return Taken::Found;
+        }
+        match self.state {
+            // 4; "The value need not be in range."
+            Pointer::Normal(offset) if normal_word => {
+                if value == offset {
+                    return Taken::Plain;
+                }
+                if self.wait >= LONGEST_WAIT {
+                    let (i, d) = inverted(value, offset);
+                    // "three or more I bits inverted and at most two D bits is
+                    // an increment; the mirror case a decrement"
+                    if i >= 3 && d <= 2 {
+                        return Taken::Increment;
+                    }
+                    if d >= 3 && i <= 2 {
+                        return Taken::Decrement;
+                    }
+                }
+            }
+            Pointer::Normal(_) => {}
+            // 5
+            Pointer::Alarm | Pointer::Lost => {
+                if normal_word && in_range {
+                    return Taken::Waiting;
+                }
+            }
+        }
+        // 6
+        Taken::Invalid
+    }
+
+    /// The name of the reason.
+    fn why_invalid(&self, before: Pointer, kind: u16, ss: u16, in_range: bool, value: u16) -> &'static str {
+        match (kind, ss) {
+            (0, 0b10) => "6.ndf-neither",
+            (0, _) => "6.ndf-neither-and-ss",
+            (1, 0b10) => match before {
+                Pointer::Normal(offset) => {
+                    let (i, d) = inverted(value, offset);
+                    let adjusts = (i >= 3 && d <= 2) || (d >= 3 && i <= 2);
+                    match (adjusts, self.wait) {
+                        (true, 0) if i > d => "6.increment-too-early-by-3",
+                        (true, 1) if i > d => "6.increment-too-early-by-2",
+                        (true, _) if i > d => "6.increment-too-early-by-1",
+                        (true, 0) => "6.decrement-too-early-by-3",
+                        (true, 1) => "6.decrement-too-early-by-2",
+                        (true, _) => "6.decrement-too-early-by-1",
+                        (false, _) if !in_range => "6.bits-and-out-of-range",
+                        (false, _) if i >= 3 => "6.bits-three-of-each",
+                        (false, _) => "6.bits-too-few",
+                    }
+                }
+                Pointer::Alarm => "6.out-of-range-in-alarm",
+                Pointer::Lost => "6.out-of-range-in-lost",
+            },
+            (1, _) => "6.normal-and-ss",
+            (_, 0b10) => "6.enabled-out-of-range",
+            (_, _) if in_range => "6.enabled-and-ss",
+            (_, _) => "6.enabled-and-ss-out-of-range",
+        }
+    }
+}
+
+// ---------------------------------------------------------------------------
+// Sink: containers, defects, actions, causes
+// ---------------------------------------------------------------------------
+
+/// "set by five ..., cleared by five that are not": what the last containers
+/// said, how many in a row, and whether the defect stands.
+#[derive(Clone, Copy, Debug, PartialEq, Eq)]
+pub struct Watch {
+    pub last: bool,
+    pub run: u8,
+    pub stands: bool,
+}
+
+impl Watch {
+    const NONE: Watch = Watch {
+        last: false,
+        run: 0,
+        stands: false,
+    };
+
+    fn see(&mut self, says: bool) {
+        self.run = if self.run > 0 && self.last == says {
+            up(self.run, MOST_EQUAL)
+        } else {
+            1
+        };
+        self.last = says;
+        if self.run >= MOST_EQUAL {
+            self.stands = says;
+        }
+    }
+}
+
+/// State of a sink.
+#[derive(Clone, Debug, PartialEq, Eq)]
+pub struct Sink {
+    pub pointer: PointerReader,
+    /// How many bytes of a container are held.
+    pub held: u16,
+    /// "last parity"
+    pub parity: Option<u8>,
+    /// The label of the containers before, how many had it, and the accepted.
+    pub label: u8,
+    pub label_run: u8,
+    pub accepted_label: Option<u8>,
+    pub plm: bool,
+    pub uneq: Watch,
+    pub remote: Watch,
+    /// The message under way: the place of the next byte, 0 outside any, and
+    /// the bytes before it.
+    pub place: u8,
+    pub message: [u8; 16],
+    /// The last good message's characters, how many equal ones came, and the
+    /// accepted.
+    pub characters: [u8; 15],
+    pub message_run: u8,
+    pub accepted_trace: Option<[u8; 15]>,
+    pub tim: bool,
+    /// "containers without a message"
+    pub without: u8,
+    /// "The unsettled total".
+    pub unsettled: u16,
+}
+
+/// The sink's settings: expected label and trace, "its four flags as yes or
+/// no".
+#[derive(Clone, Copy, Debug, PartialEq, Eq)]
+pub struct Expected {
+    pub label: u8,
+    pub trace: [u8; 15],
+    pub monitored: bool,
+    pub rdi_reported: bool,
+    pub ssf_reported: bool,
+    pub ais_reported: bool,
+}
+
+/// Where a container that ended stands.
+#[derive(Clone, Copy, Debug, PartialEq, Eq)]
+pub enum Place {
+    /// The done buffer.
+    Done,
+    /// "that part of the unit itself": 2349 bytes from this place, H1 at 0.
+    Unit(usize),
+}
+
+/// One container that ended.
+#[derive(Clone, Copy, Debug, PartialEq, Eq)]
+pub struct Ended {
+    pub place: Place,
+    /// "REI = violations"
+    pub violations: u8,
+    /// "the violations returned (received 9 to 15 read as 0)"
+    pub returned: u8,
+}
+
+/// What the sink answers for a unit.
+#[derive(Clone, Debug, PartialEq, Eq)]
+pub struct Answer {
+    pub ended: Vec<Ended>,
+    pub ssf: bool,
+    pub tsf: bool,
+    pub ais: bool,
+    pub rdi: bool,
+    /// dUNEQ, dTIM, dPLM, dRDI.
+    pub defects: [bool; 4],
+    /// cAIS, cLOP, cSSF, cUNEQ, cTIM, cRDI, cPLM.
+    pub causes: [bool; 7],
+    pub settled: bool,
+}
+
+const VIOLATION_NAMES: [&str; 9] = [
+    "violations.0",
+    "violations.1",
+    "violations.2",
+    "violations.3",
+    "violations.4",
+    "violations.5",
+    "violations.6",
+    "violations.7",
+    "violations.8",
+];
+const RETURNED_NAMES: [&str; 16] = [
+    "returned.0",
+    "returned.1",
+    "returned.2",
+    "returned.3",
+    "returned.4",
+    "returned.5",
+    "returned.6",
+    "returned.7",
+    "returned.8",
+    "returned.9-as-0",
+    "returned.10-as-0",
+    "returned.11-as-0",
+    "returned.12-as-0",
+    "returned.13-as-0",
+    "returned.14-as-0",
+    "returned.15-as-0",
+];
+
+/// "A normal state's held count is 2349 minus 3 times the offset, or 0 at
+/// offset 0; any other state's is 0."
+fn held_count(state: Pointer) -> usize {
+    match state {
+        Pointer::Normal(offset) => sent(offset),
+        Pointer::Alarm | Pointer::Lost => 0,
+    }
+}
+
+impl Sink {
+    /// "it starts lost, the wait 3, all else 0 or none".
+    pub fn fresh() -> Self {
+        Sink {
+            pointer: PointerReader::fresh(),
+            held: 0,
+            parity: None,
+            label: 0,
+            label_run: 0,
+            accepted_label: None,
+            plm: false,
+            uneq: Watch::NONE,
+            remote: Watch::NONE,
+            place: 0,
+            message: [0; 16],
+            characters: [0; 15],
+            message_run: 0,
+            accepted_trace: None,
+            tim: false,
+            without: 0,
+            unsettled: 0,
+        }
+    }
+
+    /// "a state number outside its range, or a held count other than the one
+    /// above" is refused.
+    fn well_formed(&self) -> bool {
+        self.pointer.in_range()
+            && usize::from(self.held) == held_count(self.pointer.state)
+            && self.label_run <= MOST_EQUAL
+            && self.uneq.run <= MOST_EQUAL
+            && self.remote.run <= MOST_EQUAL
+            && self.place <= LAST_PLACE
+            && self.message_run <= MOST_MESSAGES
+            && self.without <= MOST_WITHOUT
+    }
+
+    /// "It clears held count, parity, accepted values, defects, message place
+    /// and run, the count to 48, label and defect runs, but not the pointer's
+    /// own runs and wait or the unsettled total."
+    fn clear(&mut self, note: Note) {
+        for (met, name) in [
+            (self.held > 0, "clears.held-count"),
+            (self.parity.is_some(), "clears.parity"),
+            (self.accepted_label.is_some(), "clears.accepted-label"),
+            (self.accepted_trace.is_some(), "clears.accepted-trace"),
+            (self.uneq.stands, "clears.dUNEQ"),
+            (self.tim, "clears.dTIM"),
+            (self.plm, "clears.dPLM"),
+            (self.remote.stands, "clears.dRDI"),
+            (self.place > 0, "clears.message-place"),
+            (self.message_run > 0, "clears.message-run"),
+            (self.without < MOST_WITHOUT, "clears.count-to-48"),
+            (self.label_run > 0 && self.label_run < 5, "clears.label-run"),
+            (self.uneq.run > 0 && self.uneq.run < 5 && self.uneq.last, "clears.run-of-00"),
+            (self.remote.run > 0 && self.remote.run < 5 && self.remote.last, "clears.run-of-remote"),
+        ] {
+            if met {
+                note(name);
+            }
+        }
+        *self = Sink {
+            pointer: self.pointer,
+            // "also where a clearing put the count at 48"
+            without: MOST_WITHOUT,
+            unsettled: self.unsettled,
+            ..Sink::fresh()
+        };
+    }
+
+    /// One container that ended, "Per container, in order".
+    fn examine(&mut self, container: &[u8], place: Place, expected: &Expected, note: Note) -> Ended {
+        // "Column 1 holds J1, B3, C2, G1, ... from the top."
+        let column = |row: usize| container[row * ROW_LENGTH];
+        let (j1, b3, c2, g1) = (column(0), column(1), column(2), column(3));
+
+        // "Violations: ones in (B3 exclusive or last parity), 0 with no last
+        // parity."
+        let violations = match self.parity {
+            Some(parity) => {
+                let ones = (b3 ^ parity).count_ones() as u8;
+                note(VIOLATION_NAMES[usize::from(ones)]);
+                ones
+            }
+            None => {
+                note("violations.no-last-parity");
+                0
+            }
+        };
+        self.parity = Some(parity(container));
+
+        self.label(c2, expected, note);
+        self.remote(g1 & 0x08 != 0, note);
+        self.trace(j1, expected, note);
+
+        let bits = g1 >> 4;
+        note(RETURNED_NAMES[usize::from(bits)]);
+        Ended {
+            place,
+            violations,
+            returned: if bits > 8 { 0 } else { bits },
+        }
+    }
+
+    /// "Label accepted after five equal. dPLM: accepted and not the expected
+    /// one. dUNEQ: set by five 00, cleared by five that are not."
+    fn label(&mut self, c2: u8, expected: &Expected, note: Note) {
+        if self.label_run > 0 && self.label == c2 {
+            if self.label_run == MOST_EQUAL {
+                note("label.run-stops-at-5");
+            }
+            self.label_run = up(self.label_run, MOST_EQUAL);
+        } else {
+            note(match self.label_run {
+                0 => "label.run-begins",
+                1..=3 => "label.run-of-1-to-3-ended",
+                4 => "label.run-of-4-ended",
+                _ => "label.run-of-5-ended",
+            });
+            self.label_run = 1;
+            self.label = c2;
+        }
+        if self.label_run >= MOST_EQUAL {
+            note(match self.accepted_label {
+                None => "label.accepted-first",
+                Some(label) if label == c2 => "label.accepted-again",
+                Some(_) => "label.accepted-other",
+            });
+            self.accepted_label = Some(c2);
+        }
+        let plm = match self.accepted_label {
+            Some(label) => label != expected.label,
+            None => false,
+        };
+        match (self.plm, plm) {
+            (false, true) => note("dPLM.set"),
+            (true, false) => note("dPLM.cleared"),
+            _ => {}
+        }
+        self.plm = plm;
+
+        let before = self.uneq;
+        self.uneq.see(c2 == 0x00);
+        match (before.stands, self.uneq.stands) {
+            (false, true) => note("dUNEQ.set"),
+            (true, false) => note("dUNEQ.cleared"),
+            _ => {}
+        }
+        if before.run == 4 && self.uneq.run == 1 {
+            match (before.stands, before.last) {
+                (false, true) => note("dUNEQ.not-set-by-four"),
+                (true, false) => note("dUNEQ.not-cleared-by-four"),
+                _ => {}
+            }
+        }
+        if before.run == MOST_EQUAL && self.uneq.run == MOST_EQUAL {
+            note("dUNEQ.run-stops-at-5");
+        }
+    }
+
+    /// "dRDI: set by five with the bit, cleared by five without."
+    fn remote(&mut self, bit: bool, note: Note) {
+        let before = self.remote;
+        self.remote.see(bit);
+        match (before.stands, self.remote.stands) {
+            (false, true) => note("dRDI.set"),
+            (true, false) => note("dRDI.cleared"),
+            _ => {}
+        }
+        if before.run == 4 && self.remote.run == 1 {
+            match (before.stands, before.last) {
+                (false, true) => note("dRDI.not-set-by-four"),
+                (true, false) => note("dRDI.not-cleared-by-four"),
+                _ => {}
+            }
+        }
+        if before.run == MOST_EQUAL && self.remote.run == MOST_EQUAL {
+            note("dRDI.run-stops-at-5");
+        }
+    }
+
+    /// "Trace: a good message is a start byte, 15 bytes with top bit 0, right
+    /// check. A set top bit always starts one anew. A cut or wrong one, or a
+    /// byte outside any, sets the message run to 0."
+    fn trace(&mut self, j1: u8, expected: &Expected, note: Note) {
+        let mut good = false;
+        if j1 & 0x80 != 0 {
+            if self.place > 0 {
+                note(match (self.place, self.message_run) {
+                    (_, 1..) => "message.cut-ends-a-run",
+                    (LAST_PLACE, _) => "message.cut-at-15",
+                    (_, 0) => "message.cut",
+                });
+                self.message_run = 0;
+            } else {
+                note("message.starts");
+            }
+            self.message[0] = j1;
+            self.place = 1;
+        } else if self.place == 0 {
+            note(if self.message_run > 0 { "message.stray-ends-a-run" } else { "message.stray" });
+            self.message_run = 0;
+        } else {
+            self.message[usize::from(self.place)] = j1;
+            if self.place < LAST_PLACE {
+                self.place += 1;
+            } else {
+                self.place = 0;
+                good = trace_check(&self.message);
+                if !good {
+                    note(if self.message_run > 0 { "message.wrong-ends-a-run" } else { "message.wrong" });
+                    self.message_run = 0;
+                }
+            }
+        }
+
+        if good {
+            let mut characters = [0; 15];
+            characters.copy_from_slice(&self.message[1..]);
+            if self.message_run > 0 && self.characters == characters {
+                note(match self.message_run {
+                    1 => "message.good-second",
+                    2 => "message.good-third",
+                    _ => "message.good-run-stops-at-3",
+                });
+                self.message_run = up(self.message_run, MOST_MESSAGES);
+            } else {
+                note(match self.message_run {
+                    0 => "message.good-first",
+                    1 | 2 => "message.good-other-after-1-or-2",
+                    _ => "message.good-other-after-3",
+                });
+                self.message_run = 1;
+                self.characters = characters;
+            }
+            // "A good message puts the count to 0, whatever it was, and its
+            // container is not one without."
+            note(match self.without {
+                MOST_WITHOUT => "count.48-to-0",
+                47 => "count.47-to-0",
+                _ => "count.to-0",
+            });
+            self.without = 0;
+            // "At a run of three or more equal ones the message is accepted,
+            // and dTIM becomes: accepted differs from expected."
+            if self.message_run >= 3 {
+                note(match self.accepted_trace {
+                    None => "trace.accepted-first",
+                    Some(before) if before == characters => "trace.accepted-again",
+                    Some(_) => "trace.accepted-other",
+                });
+                let tim = characters != expected.trace;
+                match (self.tim, tim) {
+                    (false, true) => note("dTIM.set-by-a-message"),
+                    (true, false) => note("dTIM.cleared"),
+                    (true, true) => note("dTIM.stays-by-a-message"),
+                    (false, false) => {}
+                }
+                self.accepted_trace = Some(characters);
+                self.tim = tim;
+            }
+        } else {
+            // "48 containers without a good message set dTIM and the message
+            // run to 0, and so does each later one without, also where a
+            // clearing put the count at 48."
+            let before = self.without;
+            self.without = up(before, MOST_WITHOUT);
+            if self.without >= MOST_WITHOUT {
+                note(match (before < MOST_WITHOUT, self.tim) {
+                    (true, false) => "dTIM.set-by-the-48th",
+                    (true, true) => "dTIM.stays-by-the-48th",
+                    (false, false) => "dTIM.set-by-one-after-48",
+                    (false, true) => "count.stops-at-48",
+                });
+                self.tim = true;
+                self.message_run = 0;
+            }
+        }
+    }
+
+    /// "Actions and causes are taken at the unit's end".
+    fn answer(&mut self, ended: Vec<Ended>, expected: &Expected, note: Note) -> Answer {
+        let state = self.pointer.state;
+        let (uneq, tim, plm, remote) = (self.uneq.stands, self.tim, self.plm, self.remote.stands);
+        // "A unit that ends in alarm or lost has SSF"
+        let ssf = !matches!(state, Pointer::Normal(_));
+        let tsf = ssf || uneq || tim;
+        let ais = tsf || plm;
+        let rdi = tsf;
+        let causes = [
+            // "cAIS = alarm and AIS reported; cLOP = lost; cSSF = SSF,
+            // monitored, SSF reported"
+            state == Pointer::Alarm && expected.ais_reported,
+            state == Pointer::Lost,
+            ssf && expected.monitored && expected.ssf_reported,
+            // "cUNEQ = dUNEQ, monitored; cTIM = dTIM, not dUNEQ, monitored"
+            uneq && expected.monitored,
+            tim && !uneq && expected.monitored,
+            // "cRDI = dRDI, not dUNEQ, not dTIM, monitored, RDI reported"
+            remote && !uneq && !tim && expected.monitored && expected.rdi_reported,
+            // "cPLM = dPLM and not TSF"
+            plm && !tsf,
+        ];
+        // "A unit ends settled if the state is normal, none of the four defects
+        // stands, and accepted label and trace are the expected ones."
+        let settled = !ssf
+            && !uneq
+            && !tim
+            && !plm
+            && !remote
+            && self.accepted_label == Some(expected.label)
+            && self.accepted_trace == Some(expected.trace);
+        // "The unsettled total counts all other units since the fresh state
+        // and stays at 65,535."
+        if !settled {
+            self.unsettled = self.unsettled.saturating_add(1);
+        }
+
+        let [c_ais, c_lop, c_ssf, c_uneq, c_tim, c_rdi, c_plm] = causes;
+        let stale = match self.accepted_label {
+            Some(label) => (label != expected.label) != plm,
+            None => false,
+        };
+        for (met, name) in [
+            (ssf, "action.SSF"),
+            (!tsf && !ais, "action.none"),
+            (uneq && !tim, "action.TSF-by-dUNEQ-alone"),
+            (tim && !uneq, "action.TSF-by-dTIM-alone"),
+            (tim && uneq, "action.TSF-by-both"),
+            (plm && !tsf, "action.AIS-by-dPLM-alone"),
+            (ended.iter().any(|one| one.violations > 0), "action.REI"),
+            (!causes.contains(&true), "cause.none"),
+            (c_ais, "cause.cAIS"),
+            (c_lop, "cause.cLOP"),
+            (c_ssf, "cause.cSSF"),
+            (c_uneq, "cause.cUNEQ"),
+            (c_tim, "cause.cTIM"),
+            (c_rdi, "cause.cRDI"),
+            (c_plm, "cause.cPLM"),
+            (c_ssf && c_ais, "cause.cSSF-with-cAIS"),
+            (c_ssf && c_lop, "cause.cSSF-with-cLOP"),
+            (c_rdi && c_plm, "cause.cRDI-with-cPLM"),
+            (c_ais && !c_ssf, "cause.cAIS-alone"),
+            (c_lop && !c_ssf, "cause.cLOP-alone"),
+            (c_ssf && !c_ais && !c_lop, "cause.cSSF-alone"),
+            (c_rdi && !c_plm, "cause.cRDI-alone"),
+            (c_plm && !c_rdi, "cause.cPLM-alone"),
+            (c_plm && !expected.monitored, "cause.cPLM-not-monitored"),
+            (state == Pointer::Alarm && !expected.ais_reported, "cause.alarm-not-reported"),
+            (ssf && expected.monitored && !expected.ssf_reported, "cause.SSF-not-reported"),
+            (ssf && !expected.monitored && expected.ssf_reported, "cause.SSF-not-monitored"),
+            (uneq && !expected.monitored, "cause.dUNEQ-not-monitored"),
+            (tim && !uneq && !expected.monitored, "cause.dTIM-not-monitored"),
+            (tim && uneq && expected.monitored, "cause.dTIM-under-dUNEQ"),
+            (remote && uneq && !tim && expected.monitored && expected.rdi_reported, "cause.dRDI-under-dUNEQ"),
+            (remote && tim && !uneq && expected.monitored && expected.rdi_reported, "cause.dRDI-under-dTIM"),
+            (remote && !tsf && !expected.monitored && expected.rdi_reported, "cause.dRDI-not-monitored"),
+            (remote && !tsf && expected.monitored && !expected.rdi_reported, "cause.dRDI-not-reported"),
+            (plm && uneq && !tim, "cause.dPLM-under-dUNEQ"),
+            (plm && tim && !uneq, "cause.dPLM-under-dTIM"),
+            (settled, "unit.settled"),
+            (!settled, "unit.unsettled"),
+            (!ssf && !ais && !remote && self.accepted_label.is_none(), "unsettled.no-label-accepted"),
+            (!ssf && !ais && !remote && self.accepted_trace.is_none(), "unsettled.no-trace-accepted"),
+            (!ssf && !ais && remote, "unsettled.by-dRDI-alone"),
+            (
+                !ssf && !ais && !remote && self.accepted_trace.is_some() && self.accepted_trace != Some(expected.trace),
+                "unsettled.by-the-expected-trace-alone",
+            ),
+            (
+                !ssf && !ais && !remote && self.accepted_label.is_some() && self.accepted_label != Some(expected.label),
+                "unsettled.by-the-expected-label-alone",
+            ),
+            (stale && !plm, "dPLM.not-yet-set-without-a-container"),
+            (stale && plm, "dPLM.not-yet-cleared-without-a-container"),
+        ] {
+            if met {
+                note(name);
+            }
+        }
+
+        Answer {
+            ended,
+            ssf,
+            tsf,
+            ais,
+            rdi,
+            defects: [uneq, tim, plm, remote],
+            causes,
+            settled,
+        }
+    }
+}
+
+/// Where the containers of a unit stand: "Up to two containers end in a unit."
+/// Done gets what was begun earlier, held what does not end.
+fn cut(
+    s: &mut Sink,
+    offset: u16,
+    taken: Taken,
+    unit: &[u8],
+    held: &mut [u8],
+    done: &mut [u8],
+    note: Note,
+) -> Vec<Place> {
+    // "In an increment unit byte offsets 0 to 2 are skipped"; "In a decrement
+    // unit the three H3 bytes carry container bytes."
+    let first = match taken {
+        Taken::Increment => HEAD_LENGTH + STEP,
+        Taken::Decrement => HEAD_LENGTH - STEP,
+        _ => HEAD_LENGTH,
+    };
+    let mut places = Vec::new();
+    let count = usize::from(s.held);
+    // Where the next container begins.
+    let mut at = first;
+    if taken == Taken::NewData || taken == Taken::Found {
+        // "New data (even at the same offset) and rule 3 drop the held bytes
+        // and forget the last parity." "J1 stands at offset 3 times the value",
+        // and "A new offset holds in the same unit."
+        note(match (taken, count) {
+            (Taken::NewData, 0) => "drop.new-data-nothing-held",
+            (Taken::NewData, _) => "drop.new-data-held",
+            (_, 0) => "drop.found-nothing-held",
+            (_, _) => "drop.found-held",
+        });
+        if s.parity.is_some() {
+            note("drop.parity-forgotten");
+        }
+        s.parity = None;
+        at = first + STEP * usize::from(offset);
+    } else if count > 0 {
+        // "One begun earlier is completed in the done buffer: the held bytes
+        // first, and a continuation is written from the held count on."
+        let rest = CONTAINER_LENGTH - count;
+        done[..count].copy_from_slice(&held[..count]);
+        done[count..].copy_from_slice(&unit[first..first + rest]);
+        places.push(Place::Done);
+        at = first + rest;
+    }
+    // "One that begins and ends in this unit is handed back as that part of
+    // the unit itself, not a copy."
+    if unit.len() - at >= CONTAINER_LENGTH {
+        places.push(Place::Unit(at));
+        at += CONTAINER_LENGTH;
+    }
+    // "What begins and does not end goes to the held buffer from its first
+    // byte. Bytes of either buffer not named so keep their values."
+    let begun = unit.len() - at;
+    held[..begun].copy_from_slice(&unit[at..]);
+    s.held = begun as u16;
+
+    note(match (&places[..], taken) {
+        ([], Taken::Increment) => "ended.none-by-increment",
+        ([], _) => "ended.none-after-a-drop",
+        ([Place::Done], Taken::Increment) if begun == 0 => "ended.one-in-done-none-begun",
+        ([Place::Done], Taken::Increment) => "ended.one-in-done-by-increment",
+        ([Place::Done], Taken::Decrement) => "ended.one-in-done-by-decrement",
+        ([Place::Done], Taken::AlarmWord) => "ended.one-in-done-by-alarm-word",
+        ([Place::Done], Taken::Invalid) => "ended.one-in-done-by-invalid",
+        ([Place::Done], _) => "ended.one-in-done",
+        ([Place::Unit(_)], Taken::Decrement) => "ended.one-in-unit-from-h3",
+        ([Place::Unit(_)], Taken::NewData | Taken::Found) => "ended.one-in-unit-after-a-drop",
+        ([Place::Unit(_)], Taken::AlarmWord | Taken::Invalid) => "ended.one-in-unit-by-alarm-or-invalid",
+        ([Place::Unit(_)], _) => "ended.one-in-unit",
+        _ => "ended.two",
+    });
+    note(match offset {
+        0 => "offset.0",
+        1 => "offset.1",
+        521 => "offset.521",
+        522 => "offset.522",
+        781 => "offset.781",
+        782 => "offset.782",
+        _ => "offset.other",
+    });
+    places
+}
+
+/// The sink fed one unit: the new state and the answer, or the refusal's
+/// number, in the order "8, 4, 5, 1, 3". "A refusal returns its number and the
+/// old state. Nothing lent is written."
+pub fn sink(
+    s: &Sink,
+    expected: &Expected,
+    unit: &[u8],
+    held: &mut [u8],
+    done: &mut [u8],
+    note: Note,
+) -> Result<(Sink, Answer), u8> {
+    // 8: "a state number outside its range, or a held count other than the one
+    // above"
+    if !s.well_formed() {
+        return Err(8);
+    }
+    // 4: "expected ... label 00 or FF"
+    if expected.label == 0x00 || expected.label == 0xFF {
+        return Err(4);
+    }
+    // 5: "trace character outside 20 to 7E"
+    if expected.trace.iter().any(|character| !(0x20..=0x7E).contains(character)) {
+        return Err(5);
+    }
+    // 1: "unit not 2358 bytes"
+    if unit.len() != UNIT_LENGTH {
+        return Err(1);
+    }
+    // 3: "a ... held or done buffer not 2349 bytes"
+    if held.len() != CONTAINER_LENGTH || done.len() != CONTAINER_LENGTH {
+        return Err(3);
+    }
+
+    let mut after = s.clone();
+    // "H1 Y Y H2"
+    let taken = after.pointer.read(u16::from_be_bytes([unit[0], unit[3]]), note);
+    let mut ended = Vec::new();
+    match after.pointer.state {
+        // "A unit that ends in alarm or lost has SSF and hands back nothing."
+        Pointer::Alarm | Pointer::Lost => after.clear(note),
+        Pointer::Normal(offset) => {
+            for place in cut(&mut after, offset, taken, unit, held, done, note) {
+                let container = match place {
+                    Place::Done => &*done,
+                    Place::Unit(from) => &unit[from..from + CONTAINER_LENGTH],
+                };
+                ended.push(after.examine(container, place, expected, note));
+            }
+        }
+    }
+    let answer = after.answer(ended, expected, note);
+    Ok((after, answer))
 }
 
 // ---------------------------------------------------------------------------
@@ -1373,6 +2429,421 @@ mod tests {
             // of the one then current.
             let behind = if state.offset == 0 { 0 } else { 2349 - 3 * usize::from(state.offset) };
             assert_eq!(before + carried.len(), 2349 * current + behind);
+        }
+    }
+
+    // Sink
+
+    /// A reader "Wait passed, state normal, the word the first of its run and
+    /// row."
+    fn reader(offset: u16) -> PointerReader {
+        PointerReader {
+            state: Pointer::Normal(offset),
+            ..PointerReader::fresh()
+        }
+    }
+
+    fn quiet() -> impl FnMut(&'static str) {
+        |_| {}
+    }
+
+    /// The words, one after the other; how the last was taken.
+    fn read_all(r: &mut PointerReader, words: &[u16]) -> super::Taken {
+        let mut taken = super::Taken::Invalid;
+        for word in words {
+            taken = r.read(*word, &mut quiet());
+            assert!(r.in_range());
+        }
+        taken
+    }
+
+    #[test]
+    fn the_table_p1_to_p12_read_by_the_sink() {
+        use super::Taken::*;
+        for (offset, word, taken, after) in [
+            (0, 0x6800, Plain, 0),
+            (0, 0x6AAA, Increment, 1),
+            (0, 0x6955, Decrement, 782),
+            (782, 0x69A4, Increment, 0),
+            (1, 0x6954, Decrement, 0),
+            (782, 0x6800, Increment, 0),
+            (0, 0x6B0F, Invalid, 0),
+            (0, 0x6C00, Invalid, 0),
+            (0, 0x7800, Plain, 0),
+            (0, 0x0800, Invalid, 0),
+            (5, 0x9800, NewData, 0),
+            (5, 0x1801, NewData, 1),
+        ] {
+            let mut r = reader(offset);
+            assert_eq!(r.read(word, &mut quiet()), taken, "{word:04X} at {offset}");
+            assert_eq!(r.state, Pointer::Normal(after), "{word:04X} at {offset}");
+            assert_eq!(r.invalid_words, u8::from(taken == Invalid));
+            let anew = matches!(taken, Increment | Decrement | NewData);
+            assert_eq!(r.wait, if anew { 0 } else { 3 });
+        }
+    }
+
+    #[test]
+    fn p2_with_two_units_since_the_last_adjustment_is_invalid() {
+        use super::Taken::*;
+        for (wait, taken) in [(0, Invalid), (1, Invalid), (2, Invalid), (3, Increment)] {
+            let mut r = PointerReader { wait, ..reader(0) };
+            assert_eq!(r.read(0x6AAA, &mut quiet()), taken);
+        }
+        // By units: an adjustment, then plain ones, then P2 again.
+        for between in 0..5 {
+            let mut r = reader(0);
+            assert_eq!(r.read(0x6955, &mut quiet()), Decrement);
+            assert_eq!(r.read(0x69A4, &mut quiet()), Invalid);
+            let mut r = reader(782);
+            assert_eq!(r.read(0x69A4, &mut quiet()), Increment);
+            read_all(&mut r, &vec![0x6800; between]);
+            assert_eq!(r.read(0x6AAA, &mut quiet()), if between < 3 { Invalid } else { Increment });
+        }
+    }
+
+    #[test]
+    fn rows_and_runs() {
+        use super::Taken::*;
+        // Three alarm words, from each state.
+        for start in [Pointer::Lost, Pointer::Alarm, Pointer::Normal(3)] {
+            let mut r = PointerReader { state: start, ..PointerReader::fresh() };
+            read_all(&mut r, &[0xFFFF, 0xFFFF]);
+            assert_eq!(r.state, start);
+            read_all(&mut r, &[0x0000, 0xFFFF, 0xFFFF]);
+            assert_eq!(r.state, start);
+            read_all(&mut r, &[0xFFFF]);
+            assert_eq!(r.state, Pointer::Alarm);
+            read_all(&mut r, &[0xFFFF]);
+            assert_eq!((r.state, r.alarm_words), (Pointer::Alarm, 3));
+        }
+        // Eight enabled ones; the seventh is normal, the eighth lost.
+        for start in [Pointer::Alarm, Pointer::Normal(3)] {
+            let mut r = PointerReader { state: start, ..PointerReader::fresh() };
+            for value in 0..7 {
+                assert_eq!(r.read(0x9800 + value, &mut quiet()), NewData);
+                assert_eq!((r.state, r.wait), (Pointer::Normal(value), 0));
+            }
+            read_all(&mut r, &[0x9800]);
+            assert_eq!((r.state, r.wait, r.enabled_words), (Pointer::Lost, 1, 8));
+            assert_eq!(r.read(0x9800, &mut quiet()), NewData);
+            assert_eq!((r.state, r.wait, r.enabled_words), (Pointer::Lost, 2, 8));
+        }
+        // Eight invalid ones, unless another kind comes between.
+        for start in [Pointer::Alarm, Pointer::Normal(3)] {
+            let mut r = PointerReader { state: start, ..PointerReader::fresh() };
+            read_all(&mut r, &[0x0000; 7]);
+            assert_eq!((r.state, r.invalid_words), (start, 7));
+            read_all(&mut r, &[0xFFFF]);
+            assert_eq!(r.invalid_words, 0);
+            read_all(&mut r, &[0x0000; 7]);
+            assert_eq!(r.state, start);
+            read_all(&mut r, &[0x0000]);
+            assert_eq!(r.state, Pointer::Lost);
+            read_all(&mut r, &[0x0000; 3]);
+            assert_eq!((r.state, r.invalid_words), (Pointer::Lost, 8));
+        }
+        // Three alike words, whatever their NDF and however they were taken.
+        let mut r = reader(0);
+        assert_eq!(read_all(&mut r, &[0x6AAA]), Increment);
+        assert_eq!(read_all(&mut r, &[0x7AAA]), Invalid);
+        assert_eq!(read_all(&mut r, &[0xEAAA]), Found);
+        assert_eq!((r.state, r.wait), (Pointer::Normal(0x2AA), 2));
+        assert_eq!(read_all(&mut r, &[0x6AAA]), Plain);
+        for start in [Pointer::Lost, Pointer::Alarm] {
+            let mut r = PointerReader { state: start, ..PointerReader::fresh() };
+            assert_eq!(read_all(&mut r, &[0x6805, 0x6805]), Waiting);
+            assert_eq!(read_all(&mut r, &[0x6806]), Waiting);
+            assert_eq!(read_all(&mut r, &[0x6806]), Waiting);
+            assert_eq!(r.state, start);
+            assert_eq!(read_all(&mut r, &[0x6806]), Found);
+            assert_eq!(r.state, Pointer::Normal(6));
+        }
+        // Out of range: no run, and invalid outside normal.
+        let mut r = PointerReader::fresh();
+        assert_eq!(read_all(&mut r, &[0x6B0F, 0x6B0F, 0x6B0F]), Invalid);
+        assert_eq!((r.state, r.run), (Pointer::Lost, 0));
+        // In lost, new data changes nothing but the rows.
+        let mut r = PointerReader::fresh();
+        assert_eq!(read_all(&mut r, &[0x6805, 0x6805, 0x9805]), NewData);
+        assert_eq!((r.state, r.run, r.enabled_words), (Pointer::Lost, 0, 1));
+    }
+
+    fn expects(trace: &[u8; 15]) -> Expected {
+        Expected {
+            label: 0x12,
+            trace: *trace,
+            monitored: true,
+            rdi_reported: true,
+            ssf_reported: true,
+            ais_reported: true,
+        }
+    }
+
+    /// A source and a sink joined: each unit fed with what was asked of the
+    /// source, an answer for each.
+    struct Path {
+        made: Vec<Vec<u8>>,
+        current: usize,
+        source: UnitSource,
+        sink: Sink,
+        held: Vec<u8>,
+        done: Vec<u8>,
+        unit: Vec<u8>,
+    }
+
+    impl Path {
+        fn new(offset: u16, seed: u32) -> Self {
+            let mut seed = seed;
+            Path {
+                made: containers(420, &padded(b"03E5"), &mut seed),
+                current: 0,
+                source: UnitSource { offset, wait: 3 },
+                sink: Sink::fresh(),
+                held: vec![0x77; 2349],
+                done: vec![0x88; 2349],
+                unit: vec![0; 2358],
+            }
+        }
+
+        fn step(&mut self, asked: Asked) -> Answer {
+            let (current, next) = (&self.made[self.current], &self.made[self.current + 1]);
+            let (ended, after) = unit_source(self.source, asked, current, next, &mut self.unit).unwrap();
+            self.source = after;
+            let expected = expects(&padded(b"03E5"));
+            let (sink_after, answer) =
+                sink(&self.sink, &expected, &self.unit, &mut self.held, &mut self.done, &mut quiet()).unwrap();
+            self.sink = sink_after;
+            assert!(self.sink.well_formed());
+            for (index, one) in answer.ended.iter().enumerate() {
+                let container = match one.place {
+                    Place::Done => &self.done[..],
+                    Place::Unit(from) => &self.unit[from..from + 2349],
+                };
+                // Handed back as it was sent.
+                let back = usize::from(ended) - answer.ended.len() + index;
+                assert_eq!(container, &self.made[self.current + back][..]);
+                assert_eq!(one.violations, 0);
+            }
+            self.current += usize::from(ended);
+            answer
+        }
+
+        fn places(&mut self, asked: Asked) -> Vec<Place> {
+            self.step(asked).ended.iter().map(|one| one.place).collect()
+        }
+    }
+
+    #[test]
+    fn p5_ends_two_p2_none_and_p3_starts_in_h3_and_at_2346() {
+        let mut path = Path::new(1, 5);
+        assert_eq!(path.places(Asked::Nothing), []);
+        assert_eq!(path.places(Asked::Nothing), []);
+        // Rule 3: begun here, none ended.
+        assert_eq!(path.places(Asked::Nothing), []);
+        assert_eq!(path.sink.held, 2346);
+        assert_eq!(path.places(Asked::Nothing), [Place::Done]);
+        // P5
+        assert_eq!(path.places(Asked::Decrement), [Place::Done, Place::Unit(9)]);
+        assert_eq!((path.sink.pointer.state, path.sink.held), (Pointer::Normal(0), 0));
+        for _ in 0..3 {
+            assert_eq!(path.places(Asked::Nothing), [Place::Unit(9)]);
+        }
+        // P2
+        assert_eq!(path.places(Asked::Increment), []);
+        assert_eq!((path.sink.pointer.state, path.sink.held), (Pointer::Normal(1), 2346));
+        for _ in 0..3 {
+            assert_eq!(path.places(Asked::Nothing), [Place::Done]);
+        }
+        path.places(Asked::Decrement);
+        for _ in 0..3 {
+            path.places(Asked::Nothing);
+        }
+        // P3
+        let (held, done) = (path.held.clone(), path.done.clone());
+        assert_eq!(path.places(Asked::Decrement), [Place::Unit(6)]);
+        assert_eq!((path.sink.pointer.state, path.sink.held), (Pointer::Normal(782), 3));
+        assert_eq!(path.held[..3], path.unit[9 + 2346..]);
+        assert_eq!(path.held[3..], held[3..]);
+        assert_eq!(path.done, done);
+        for _ in 0..3 {
+            assert_eq!(path.places(Asked::Nothing), [Place::Done]);
+        }
+        // P4: no container begins in its own unit.
+        let held = path.held.clone();
+        assert_eq!(path.places(Asked::Increment), [Place::Done]);
+        assert_eq!((path.sink.pointer.state, path.sink.held), (Pointer::Normal(0), 0));
+        assert_eq!(path.held, held);
+    }
+
+    #[test]
+    fn a_good_path_settles_and_hands_back_every_container() {
+        for (seed, offset) in [0, 1, 2, 391, 521, 522, 781, 782].into_iter().enumerate() {
+            let mut path = Path::new(offset, 11 + seed as u32);
+            let mut seed = 3 + seed as u32;
+            for unit in 1..=300 {
+                let asked = match next(&mut seed) % 4 {
+                    0 if path.source.wait == 3 && unit > 3 => Asked::Increment,
+                    1 if path.source.wait == 3 && unit > 3 => Asked::Decrement,
+                    _ => Asked::Nothing,
+                };
+                let answer = path.step(asked);
+                if unit > 66 {
+                    assert!(path.sink.accepted_trace.is_some());
+                    assert!(!path.sink.tim && !path.sink.uneq.stands);
+                }
+                assert_eq!(answer.ssf, unit < 3);
+                assert_eq!(path.sink.pointer.state, if unit < 3 { Pointer::Lost } else { Pointer::Normal(path.source.offset) });
+            }
+        }
+    }
+
+    /// Feeds single containers to a sink in normal state at offset 0.
+    fn feed(s: &mut Sink, expected: &Expected, j1: u8, c2: u8, g1: u8) -> Answer {
+        let mut unit = vec![0; 2358];
+        unit[0] = 0x68;
+        unit[9] = j1;
+        unit[9 + 522] = c2;
+        unit[9 + 783] = g1;
+        let (mut held, mut done) = (vec![0; 2349], vec![0; 2349]);
+        let (after, answer) = sink(s, expected, &unit, &mut held, &mut done, &mut quiet()).unwrap();
+        assert!(after.well_formed());
+        *s = after;
+        answer
+    }
+
+    fn at_0(without: u8) -> Sink {
+        Sink {
+            pointer: reader(0),
+            without,
+            ..Sink::fresh()
+        }
+    }
+
+    #[test]
+    fn label_and_defects_by_five() {
+        let expected = expects(&padded(b""));
+        let mut s = at_0(0);
+        for _ in 0..4 {
+            assert_eq!(feed(&mut s, &expected, 0, 0x13, 0x08).defects, [false; 4]);
+        }
+        assert_eq!(feed(&mut s, &expected, 0, 0x13, 0x08).defects, [false, false, true, true]);
+        // A label of 00 is accepted like another, and dUNEQ set.
+        for _ in 0..4 {
+            assert_eq!(feed(&mut s, &expected, 0, 0x00, 0x00).defects, [false, false, true, true]);
+        }
+        let answer = feed(&mut s, &expected, 0, 0x00, 0x00);
+        assert_eq!(answer.defects, [true, false, true, false]);
+        assert_eq!(answer.causes, [false, false, false, true, false, false, false]);
+        // Any labels that are not 00 clear it.
+        for label in 1..5 {
+            assert_eq!(feed(&mut s, &expected, 0, label, 0x00).defects, [true, false, true, false]);
+        }
+        let answer = feed(&mut s, &expected, 0, 5, 0x00);
+        assert_eq!(answer.defects, [false, false, true, false]);
+        assert_eq!(answer.causes, [false, false, false, false, false, false, true]);
+        for _ in 0..4 {
+            assert!(feed(&mut s, &expected, 0, 0x12, 0x90).defects[2]);
+        }
+        let answer = feed(&mut s, &expected, 0, 0x12, 0x80);
+        assert_eq!(answer.defects, [false; 4]);
+        assert_eq!(answer.ended[0].returned, 8);
+        assert_eq!(feed(&mut s, &expected, 0, 0x12, 0x90).ended[0].returned, 0);
+    }
+
+    #[test]
+    fn messages_and_the_count_to_48() {
+        let expected = expects(&padded(b"03E5"));
+        let good = message(&padded(b"03E5"));
+        let mut s = at_0(48);
+        // After a clearing the first container without a message sets dTIM.
+        assert!(feed(&mut s, &expected, good[0], 0x12, 0).defects[1]);
+        for j1 in &good[1..] {
+            feed(&mut s, &expected, *j1, 0x12, 0);
+        }
+        assert_eq!((s.message_run, s.without), (1, 0));
+        for round in 2..=3 {
+            for j1 in &good {
+                assert!(s.tim);
+                feed(&mut s, &expected, *j1, 0x12, 0);
+            }
+            assert_eq!(s.message_run, round);
+        }
+        assert!(!s.tim);
+        assert_eq!(s.accepted_trace, Some(padded(b"03E5")));
+        // A cut ends the run, but not what was accepted.
+        feed(&mut s, &expected, good[0], 0x12, 0);
+        assert_eq!(s.message_run, 3);
+        feed(&mut s, &expected, good[0], 0x12, 0);
+        assert_eq!((s.message_run, s.place), (0, 1));
+        // 48 without.
+        let mut answer = None;
+        for count in 3..=48 {
+            assert!(!s.tim);
+            answer = Some(feed(&mut s, &expected, 0x41, 0x12, 0));
+            assert_eq!(s.without, count);
+        }
+        assert!(answer.unwrap().defects[1]);
+        assert_eq!(s.accepted_trace, Some(padded(b"03E5")));
+        // The 48th may be the good one.
+        let mut s = Sink { without: 47, place: 15, ..at_0(0) };
+        s.message.copy_from_slice(&good);
+        assert!(!feed(&mut s, &expected, good[15], 0x12, 0).defects[1]);
+        assert_eq!((s.without, s.message_run), (0, 1));
+    }
+
+    #[test]
+    fn sink_refusals_come_in_the_order_8_4_5_1_3() {
+        let ask = |s: &Sink, label, character, unit: usize, held: usize, done: usize| {
+            let mut expected = expects(&padded(b"A"));
+            expected.label = label;
+            expected.trace[7] = character;
+            let (mut h, mut d) = (vec![0x77; held], vec![0x88; done]);
+            let answer = sink(s, &expected, &vec![0; unit], &mut h, &mut d, &mut quiet());
+            if answer.is_err() {
+                assert!(h.iter().all(|byte| *byte == 0x77) && d.iter().all(|byte| *byte == 0x88));
+            }
+            answer.err().unwrap_or(0)
+        };
+        let good = at_0(0);
+        let bad = Sink { held: 3, ..at_0(0) };
+        assert_eq!(ask(&bad, 0x00, 0x1F, 2357, 2348, 2350), 8);
+        assert_eq!(ask(&good, 0x00, 0x1F, 2357, 2348, 2350), 4);
+        assert_eq!(ask(&good, 0xFF, 0x1F, 2357, 2348, 2350), 4);
+        assert_eq!(ask(&good, 0xFE, 0x1F, 2357, 2348, 2350), 5);
+        assert_eq!(ask(&good, 0xFE, 0x7F, 2357, 2348, 2350), 5);
+        assert_eq!(ask(&good, 0xFE, 0x7E, 2357, 2348, 2350), 1);
+        assert_eq!(ask(&good, 0xFE, 0x7E, 2358, 2348, 2350), 3);
+        assert_eq!(ask(&good, 0xFE, 0x7E, 2358, 2349, 2350), 3);
+        assert_eq!(ask(&good, 0xFE, 0x7E, 2358, 2348, 2349), 3);
+        assert_eq!(ask(&good, 0xFE, 0x7E, 2358, 2349, 2349), 0);
+        let eight = |s: Sink| ask(&s, 0x12, 0x20, 2358, 2349, 2349);
+        let pointer = |pointer| Sink { pointer, ..Sink::fresh() };
+        let p = PointerReader::fresh();
+        assert_eq!(eight(pointer(PointerReader { alarm_words: 4, ..p })), 8);
+        assert_eq!(eight(pointer(PointerReader { enabled_words: 9, ..p })), 8);
+        assert_eq!(eight(pointer(PointerReader { invalid_words: 9, ..p })), 8);
+        assert_eq!(eight(pointer(PointerReader { run: 4, ..p })), 8);
+        assert_eq!(eight(pointer(PointerReader { wait: 4, ..p })), 8);
+        assert_eq!(eight(pointer(reader(783))), 8);
+        assert_eq!(eight(pointer(reader(782))), 8);
+        assert_eq!(eight(Sink { held: 3, ..pointer(reader(782)) }), 0);
+        assert_eq!(eight(Sink { held: 2349, ..pointer(reader(0)) }), 8);
+        assert_eq!(eight(Sink { label_run: 6, ..at_0(0) }), 8);
+        assert_eq!(eight(Sink { uneq: Watch { run: 6, ..Watch::NONE }, ..at_0(0) }), 8);
+        assert_eq!(eight(Sink { remote: Watch { run: 6, ..Watch::NONE }, ..at_0(0) }), 8);
+        assert_eq!(eight(Sink { place: 16, ..at_0(0) }), 8);
+        assert_eq!(eight(Sink { message_run: 4, ..at_0(0) }), 8);
+        assert_eq!(eight(at_0(49)), 8);
+    }
+
+    #[test]
+    fn the_unsettled_total_stays_at_65535() {
+        let expected = expects(&padded(b"A"));
+        let mut s = Sink { unsettled: 65_533, ..at_0(0) };
+        for total in [65_534, 65_535, 65_535] {
+            assert!(!feed(&mut s, &expected, 0, 0x12, 0).settled);
+            assert_eq!(s.unsettled, total);
         }
     }
 

@@ -1,0 +1,197 @@
+#!/usr/bin/env python3
+"""The bench of the proved program against the second program's, script by script.
+
+    tests/bench.py BENCH SECOND SCRIPTS [SEEDS [UNITS]]
+    tests/bench.py --try SECOND SCRIPTS [SEEDS [UNITS]]
+
+BENCH reads a script on standard input; SECOND is the second program, asked with `bench`;
+SCRIPTS makes a script from a seed and a number of units. The first line that differs is
+printed with the script up to the line that caused it. Every case that the second program
+names must be met by some script.
+
+With --try there is no program yet: `rt try` compiles the bench's source in three ways
+(without optimisation, with it, and with the compiler's assumptions checked), and each
+must print what SECOND prints. Nothing is proved for that, so it is quick; many scripts
+are played as one, and one by one where they differ.
+"""
+
+import os
+import shutil
+import subprocess
+import sys
+import tempfile
+
+LIMIT = 120  # seconds for one run of one program
+MOST = 900000  # bytes of a script, and about so many of what is printed: the bench and `rt try` stop at 1048576
+ROOT = os.path.dirname(os.path.dirname(os.path.abspath(__file__)))
+
+
+def run(command, script, what, both=False):
+    """Standard output's bytes, and standard error's where both are asked for."""
+    try:
+        with tempfile.TemporaryFile() as stdin:
+            stdin.write(script)
+            stdin.seek(0)
+            done = subprocess.run(command, stdin=stdin, stdout=subprocess.PIPE, stderr=subprocess.PIPE,
+                                  timeout=LIMIT, check=False)
+    except subprocess.TimeoutExpired:
+        sys.exit(f"bench.py: {what}: {command[0]} did not end within {LIMIT} seconds")
+    except OSError as error:
+        sys.exit(f"bench.py: {what}: {error}")
+    if done.returncode != 0:
+        sys.exit(f"bench.py: {what}: {command[0]} ended with {done.returncode}: "
+                 f"{done.stderr.decode(errors='replace')[-2000:]}")
+    return (done.stdout, done.stderr) if both else done.stdout
+
+
+def lines_of(script):
+    lines = script.split(b"\n")
+    if lines and lines[-1] == b"":
+        lines.pop()
+    return lines
+
+
+def text(line):
+    return "(no line)" if line is None else line.decode(errors="replace")
+
+
+def causing_line(second, script, place, what):
+    """The number of the script line that prints output line `place` (from 0) in the second program.
+
+    The script is run cut short: the fewest of its lines that print more than `place` lines. A line
+    that the proved program alone prints lies behind the last line of the second's; then the whole
+    script is meant.
+    """
+    lines = lines_of(script)
+    low, high = 0, len(lines)
+    while low < high:
+        middle = (low + high) // 2
+        part = b"".join(line + b"\n" for line in lines[:middle])
+        if len(lines_of(run([second, "bench"], part, what))) > place:
+            high = middle
+        else:
+            low = middle + 1
+    return min(low, len(lines))
+
+
+def differ(seed, second, script, place, proved_line, second_line):
+    number = causing_line(second, script, place, f"seed {seed}")
+    lines = lines_of(script)
+    print(f"bench.py: seed {seed}: output line {place + 1} differs")
+    print(f"  proved: {text(proved_line)}")
+    print(f"  second: {text(second_line)}")
+    caused = text(lines[number - 1]) if number else "(none)"
+    print(f"  script line {number}: {caused}")
+    print("the script up to there:")
+    sys.stdout.flush()
+    sys.stdout.buffer.write(b"".join(line + b"\n" for line in lines[:number]))
+    sys.stdout.buffer.flush()
+    sys.exit(1)
+
+
+def compare(seed, second, script, proved, expected):
+    if proved == expected:
+        return
+    ours, theirs = lines_of(proved), lines_of(expected)
+    for place in range(max(len(ours), len(theirs))):
+        a = ours[place] if place < len(ours) else None
+        b = theirs[place] if place < len(theirs) else None
+        if a != b:
+            differ(seed, second, script, place, a, b)
+    sys.exit(f"bench.py: seed {seed}: the outputs differ in their last LF alone")
+
+
+def tried(tree, script, expected, what):
+    """What `rt try` says where the bench prints anything but `expected`; none where it prints that."""
+    folder = os.path.join(tree, "crates", "bench")
+    for name, content in (("stdin", script), ("stdout", expected)):
+        with open(os.path.join(folder, name), "wb") as file:
+            file.write(content)
+    try:
+        done = subprocess.run(["rt", "try", "bench"], cwd=tree, stdout=subprocess.PIPE, stderr=subprocess.STDOUT,
+                              timeout=LIMIT, check=False)
+    except (subprocess.TimeoutExpired, OSError) as error:
+        sys.exit(f"bench.py: {what}: {error}")
+    return None if done.returncode == 0 else done.stdout.decode(errors="replace")
+
+
+def try_all(second, played):
+    """The bench's source against the second program's answers, as many scripts at a time as one may hold."""
+    with tempfile.TemporaryDirectory() as tree:
+        shutil.copy(os.path.join(ROOT, "crates.txt"), tree)
+        shutil.copytree(os.path.join(ROOT, "crates"), os.path.join(tree, "crates"))
+        groups = [[]]
+        size = 0
+        for seed, script, expected in played:
+            size += max(len(script), len(expected))
+            if size > MOST:
+                groups.append([])
+                size = max(len(script), len(expected))
+            groups[-1].append((seed, script))
+        for group in groups:
+            seeds = f"seeds {group[0][0]} to {group[-1][0]}"
+            script = b"".join(part for _, part in group)
+            said = tried(tree, script, run([second, "bench"], script, seeds), seeds)
+            if said is None:
+                continue
+            for seed, part in group:
+                alone = tried(tree, part, run([second, "bench"], part, f"seed {seed}"), f"seed {seed}")
+                if alone is not None:
+                    print(f"bench.py: seed {seed}: the bench prints something else\n{alone}\nthe script:")
+                    sys.stdout.flush()
+                    sys.stdout.buffer.write(part)
+                    sys.stdout.buffer.flush()
+                    sys.exit(1)
+            sys.exit(f"bench.py: {seeds}, one after the other: the bench prints something else\n{said}")
+
+
+def number(argument, what):
+    if not argument.isdecimal() or int(argument) < 1:
+        sys.exit(f"bench.py: {what} is a number from 1, not {argument}")
+    return int(argument)
+
+
+def main():
+    if len(sys.argv) not in (4, 5, 6):
+        sys.exit("usage: bench.py BENCH|--try SECOND SCRIPTS [SEEDS [UNITS]]")
+    trying = sys.argv[1] == "--try"
+    bench, second, scripts = (os.path.abspath(path) for path in sys.argv[1:4])
+    seeds = number(sys.argv[4], "SEEDS") if len(sys.argv) > 4 else 12
+    units = number(sys.argv[5], "UNITS") if len(sys.argv) > 5 else 400
+    met = {}
+    played = []
+    states = {"normal": 0, "alarm": 0, "lost": 0}
+    sinks = settled = refused = compared = 0
+    for seed in range(1, seeds + 1):
+        what = f"seed {seed}"
+        script = run([scripts, str(seed), str(units)], b"", what)
+        expected, rules = run([second, "bench", "--rules"], script, what, both=True)
+        if trying:
+            played.append((seed, script, expected))
+        else:
+            compare(seed, second, script, run([bench], script, what), expected)
+        for line in lines_of(expected):
+            compared += 1
+            if line.startswith(b"ok st="):
+                sinks += 1
+                states[line[6:].split(b" ", 1)[0].decode()] += 1
+                settled += b" settled=1 " in line
+            elif line.startswith(b"refused "):
+                refused += 1
+        for line in rules.decode().splitlines():
+            name, count = line.rsplit(" ", 1)
+            met[name] = met.get(name, 0) + int(count)
+    if trying:
+        try_all(second, played)
+    never = [name for name, count in met.items() if count == 0]
+    for name in never:
+        print(f"bench.py: {name} was never met")
+    print(f"bench.py: {seeds} seeds, {compared} lines alike, {sinks} units (normal {states['normal']}, "
+          f"alarm {states['alarm']}, lost {states['lost']}, settled {settled}), {refused} refused, "
+          f"{len(met) - len(never)} of {len(met)} cases met")
+    if never or not met:
+        sys.exit(1)
+
+
+if __name__ == "__main__":
+    main()
