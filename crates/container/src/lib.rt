@@ -1,5 +1,5 @@
 // A container's rows, written and read, and the payload call. The definitions stand in specs/: Container (the layout), Payload (the call).
-// proofs/Places.antt says where each byte lies. The container source rests on this crate.
+// proofs/Places.antt says where each byte lies. The container source rests on this crate, and what the monitor sees of a container.
 ghost use mathlib.Core.Path.{_≡_};
 ghost use Prim.Native.Nat.{_+_, _*_};
 ghost use lib.ListN.{length};

@@ -30,6 +30,7 @@ pub record Row : Type 0 where
 pub row : ℕ → ℕ → Taken → ℕ → Row
 row o w t l = record { offset = o; word = w; taken = t; leads = l }
 
+-- P1 to P12, in their order
 pub rows : List Row
 rows =
     row 0 0x6800 Plain 0

@@ -27,22 +27,10 @@ pub answer-is : (s : Shape) (state : State) (c : Call) → called s state c .rec
 unfolding sink told refusing
 answer-is s state c = outcome-answer (λ (o : Outcome). o .received .answer) (faults s state c) _ _ refl (λ _. refl)
 
--- ---- an answer is told by its number
-
-number-some : (x : Refusal) → numberOf x ≡ 0 → ⊥
-unfolding numberOf
-number-some wrong.Unit h = absurd (omega arith)
-number-some wrong.Payload h = absurd (omega arith)
-number-some wrong.Container h = absurd (omega arith)
-number-some wrong.Label h = absurd (omega arith)
-number-some wrong.Trace h = absurd (omega arith)
-number-some wrong.Violations h = absurd (omega arith)
-number-some wrong.Adjustment h = absurd (omega arith)
-number-some wrong.State h = absurd (omega arith)
+-- ---- a call is not both done and refused
 
 pub done-not-refused : (x : Refusal) → Done ≡ Refused x → ⊥
-unfolding answerNumber
-done-not-refused x h = number-some x (sym (ap answerNumber h))
+done-not-refused x h = let z : _≡_ {A = ℕ} 0 1 = cc in absurd (omega arith)
 
 -- ---- what is kept
 

@@ -1,5 +1,5 @@
 // The shape of a unit and of its containers, as four numbers, and what an adjustment does to places in them.
-// The definitions stand in specs/Shape.antt; proofs/Balance.antt has the law that every count of containers follows from. The sources rest on this crate.
+// The definitions stand in specs/Shape.antt; proofs/Balance.antt has the law that every count of containers follows from. The sources and the sink rest on this crate.
 ghost use mathlib.Core.Path.{_≡_};
 ghost use mathlib.Core.Bool.{cond};
 ghost use Prim.Native.Nat.{_≤_};

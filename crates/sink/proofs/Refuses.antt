@@ -1,10 +1,11 @@
 -- Laws of what the sink refuses: its answer is the first thing wrong with the call, and a call that is done had nothing wrong with it. Assumes nothing.
 use mathlib.Core.Path.{_≡_, refl, sym, _∙_}
-use mathlib.Core.Bool.{Bool, true, false, not, _||_, false≢true}
+use mathlib.Core.Bool.{Bool, true, false, not, _||_}
 use mathlib.Core.List.{List}
 use Prim.Native.Nat.{ℕ, _≤_}
 use lib.Dec.{eqb}
 use borrow.Author.Tests.{eq-eqb, ne-eqb, eqb-true, not-false}
+use Rattle.laws.proofs.Tests.{or-false}
 use Rattle.settings.specs.Settings.{labelRefused, traceRefused}
 use Rattle.refusals.specs.Refusals.{due, answerOf}
 use Rattle.refusals.specs.declared.Refusal.{Refusal}
@@ -20,10 +21,6 @@ use Rattle.sink.specs.Sink.{heldIn, outOfRange, sinkFaults, Fed}
 use Rattle.sink.specs.declared.State.{State}
 
 -- ---- ranges
-
-or-false : (a b : Bool) → (a || b) ≡ false → (a ≡ false) × (b ≡ false)
-or-false true b e = (e, absurd (false≢true (sym e)))
-or-false false b e = (refl, e)
 
 -- a state whose numbers are in range
 pub record Ranged (s : Shape) (state : State) : Type 0 where

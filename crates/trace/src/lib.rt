@@ -1,5 +1,5 @@
 // The trace message of J1: its start byte with the 7-bit check, whether a message is good, whether two traces are the same.
-// The definitions stand in specs/Check.antt. The container source, the catalogue and the card's host rest on this crate.
+// The definitions stand in specs/Check.antt. The container source, the sink's trace machine, the catalogue and the card's host rest on this crate.
 ghost use mathlib.Core.Path.{_≡_};
 ghost use Prim.Native.Nat.{_<_, _≤_};
 ghost use Rattle.trace.specs.Check.{check7, startByte, topBitsClear, goodMessage, traceCheck, alike};

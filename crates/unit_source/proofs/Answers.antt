@@ -1,11 +1,12 @@
 -- What each test of a call decides, what a call that is done has shown, and the two ends of `make`. Assumes nothing.
 use mathlib.Core.Path.{_≡_, refl, sym, _∙_}
-use mathlib.Core.Bool.{Bool, true, false, _&&_, _||_, not, true≢false}
+use mathlib.Core.Bool.{Bool, true, false, _&&_, _||_, not}
 use mathlib.Core.List.{List}
 use Prim.Native.Nat.{ℕ, _≤_}
 use lib.Dec.{eqb, ltb}
 use lib.ListN.{length}
 use borrow.Author.Tests.{ltb-false, le-ltb, eqb-true, eq-eqb, ne-eqb, not-false}
+use Rattle.laws.proofs.Tests.{or-false}
 use Rattle.refusals.specs.Refusals.{due, answerOf}
 use Rattle.refusals.proofs.Wrong.{due-none, due-false, none-wrong, outcome-done, outcome-refused}
 use Rattle.refusals.specs.declared.Refusal.{Refusal}
@@ -46,10 +47,6 @@ module _ (s : Shape) (state : State) (a : Adjustment) (current next unit : ℕ) 
         nothing-wrong h = rw (← out-is, in-range, both, eq-eqb unit (unitLength s) unit-is, ← asked-is, h) refl
 
 -- ---- a call is done exactly if no row of the table applies
-
-or-false : (a b : Bool) → (a || b) ≡ false → (a ≡ false) × (b ≡ false)
-or-false false b e = (refl, e)
-or-false true b e = absurd (true≢false e)
 
 -- no row of the table applies
 pub record Makable (s : Shape) (state : State) (a : Adjustment) (current next unit : ℕ) : Type 0 where

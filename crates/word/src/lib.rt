@@ -1,5 +1,5 @@
 // The pointer word, H1 and H2 as one number: read and written. Its definitions stand in specs/Word.antt.
-// The unit source and the card's host rest on it.
+// The unit source, the reading of pointer words and the card's host rest on it.
 ghost use mathlib.Core.Path.{_≡_};
 ghost use Rattle.word.specs.Word.{wordOf, h1Of, h2Of, kindOf, ssOf, valueOf, readingOf, ofKind, good, inverted, plainWord, invertedWord};
 
