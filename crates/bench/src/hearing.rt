@@ -1,6 +1,5 @@
 // The receiving half of the bench: the sink's settings, the sink fed with the line, what it answers in print, and the payload call.
-use crate::say;
-use crate::sending::least;
+use bench_script::least;
 use receiving::Ended;
 use receiving::Told;
 use refusals::Answer;
@@ -30,120 +29,114 @@ pub fn flags(n: u32) -> Flags {
 fn say_state(s: reading::State) {
     match s {
         reading::State::Normal(offset) => {
-            say::text(b"ok st=normal off=");
-            say::decimal(offset as u64);
+            bench_say::number(b"ok st=normal off=", offset as u64);
         }
         reading::State::Alarm => {
-            say::text(b"ok st=alarm off=-");
+            bench_say::text(b"ok st=alarm off=-");
         }
         reading::State::Lost => {
-            say::text(b"ok st=lost off=-");
+            bench_say::text(b"ok st=lost off=-");
         }
     }
 }
 
 // One container that ended: its bytes in the view, and what is told of it.
 fn say_container(container: &[u8], told: Told) {
-    say::text(b",");
-    say::fnv(container);
-    say::text(b",v=");
-    say::decimal(told.violations as u64);
-    say::text(b",fe=");
-    say::decimal(told.returned as u64);
+    bench_say::text(b",");
+    bench_say::fnv(container);
+    bench_say::number(b",v=", told.violations as u64);
+    bench_say::number(b",fe=", told.returned as u64);
 }
 
-// It is kept, since the buffer that it lies in will be written again.
-fn keep(container: &[u8], last: &mut [u8]) {
+fn keep_as(container: &[u8], last: &mut [u8]) {
     if container.len() == last.len() {
         copier::copy(container, last);
     }
 }
 
-fn say_completed(told: Told, done: &[u8], last: &mut [u8]) {
-    say::text(b" c=D@0");
-    say_container(done, told);
-    keep(done, last);
+// It is kept at the store's end, since the buffer that it lies in will be written again.
+fn keep(container: &[u8], store: &mut [u8]) {
+    let k = least(4698, store.len());
+    keep_as(container, &mut store[k..]);
 }
 
-fn say_inside(told: Told, from: usize, unit: &[u8], last: &mut [u8]) {
+fn say_completed(told: Told, done: &[u8], store: &mut [u8]) {
+    bench_say::text(b" c=D@0");
+    say_container(done, told);
+    keep(done, store);
+}
+
+fn say_inside(told: Told, from: usize, unit: &[u8], store: &mut [u8]) {
     let place = least(from, unit.len());
     let n = least(2349, unit.len() - place);
     let e = place + n;
-    say::text(b" c=U@");
-    say::decimal(from as u64);
+    bench_say::number(b" c=U@", from as u64);
     say_container(&unit[place..e], told);
-    keep(&unit[place..e], last);
+    keep(&unit[place..e], store);
 }
 
-fn say_first(x: Ended, done: &[u8], last: &mut [u8]) {
+fn say_first(x: Ended, done: &[u8], store: &mut [u8]) {
     let told = x.first;
     if x.completed {
-        say_completed(told, done, last);
+        say_completed(told, done, store);
     }
 }
 
-fn say_second(x: Ended, unit: &[u8], last: &mut [u8]) {
+fn say_second(x: Ended, unit: &[u8], store: &mut [u8]) {
     let told = x.second;
     if x.inside {
-        say_inside(told, x.place, unit, last);
+        say_inside(told, x.place, unit, store);
     }
 }
 
-fn say_ended(x: Ended, unit: &[u8], done: &[u8], last: &mut [u8]) {
-    say::text(b" ended=");
-    say::decimal(x.number as u64);
-    say_first(x, done, last);
-    say_second(x, unit, last);
+fn say_ended(x: Ended, unit: &[u8], done: &[u8], store: &mut [u8]) {
+    bench_say::number(b" ended=", x.number as u64);
+    say_first(x, done, store);
+    say_second(x, unit, store);
 }
 
 fn say_actions(a: Actions) {
-    say::text(b" ssf=");
-    say::bit(a.ssf);
-    say::text(b" tsf=");
-    say::bit(a.tsf);
-    say::text(b" ais=");
-    say::bit(a.ais);
-    say::text(b" rdi=");
-    say::bit(a.rdi);
+    bench_say::text(b" ssf=");
+    bench_say::bit(a.ssf);
+    bench_say::text(b" tsf=");
+    bench_say::bit(a.tsf);
+    bench_say::text(b" ais=");
+    bench_say::bit(a.ais);
+    bench_say::text(b" rdi=");
+    bench_say::bit(a.rdi);
 }
 
 fn say_defects(d: Defects) {
-    say::text(b" d=");
-    say::bit(d.uneq);
-    say::bit(d.tim);
-    say::bit(d.plm);
-    say::bit(d.rdi);
+    bench_say::text(b" d=");
+    bench_say::bit(d.uneq);
+    bench_say::bit(d.tim);
+    bench_say::bit(d.plm);
+    bench_say::bit(d.rdi);
 }
 
 fn say_causes(c: Causes) {
-    say::text(b" cause=");
-    say::bit(c.ais);
-    say::bit(c.lop);
-    say::bit(c.ssf);
-    say::bit(c.uneq);
-    say::bit(c.tim);
-    say::bit(c.rdi);
-    say::bit(c.plm);
-}
-
-fn say_held(n: usize) {
-    say::text(b" held=");
-    say::decimal(n as u64);
+    bench_say::text(b" cause=");
+    bench_say::bit(c.ais);
+    bench_say::bit(c.lop);
+    bench_say::bit(c.ssf);
+    bench_say::bit(c.uneq);
+    bench_say::bit(c.tim);
+    bench_say::bit(c.rdi);
+    bench_say::bit(c.plm);
 }
 
 fn say_end(settled: bool, total: u16, held: &[u8], done: &[u8]) {
-    say::text(b" settled=");
-    say::bit(settled);
-    say::text(b" total=");
-    say::decimal(total as u64);
-    say::text(b" hb=");
-    say::fnv(held);
-    say::text(b" db=");
-    say::fnv(done);
-    say::text(b"\n");
+    bench_say::text(b" settled=");
+    bench_say::bit(settled);
+    bench_say::number(b" total=", total as u64);
+    bench_say::text(b" hb=");
+    bench_say::fnv(held);
+    bench_say::text(b" db=");
+    bench_say::fnv(done);
+    bench_say::text(b"\n");
 }
 
-fn say_received(r: Received, unit: &[u8], held: &[u8], done: &[u8], last: &mut [u8]) {
+fn say_received(r: Received, unit: &[u8], held: &[u8], done: &[u8], store: &mut [u8]) {
     let s = r.state;
     let p = s.pointer;
     let state = p.state;
@@ -152,12 +145,34 @@ fn say_received(r: Received, unit: &[u8], held: &[u8], done: &[u8], last: &mut [
     let d = r.defects;
     let c = r.causes;
     say_state(state);
-    say_held(s.held);
-    say_ended(ended, unit, done, last);
+    bench_say::number(b" held=", s.held as u64);
+    say_ended(ended, unit, done, store);
     say_actions(a);
     say_defects(d);
     say_causes(c);
     say_end(r.settled, s.total, held, done);
+}
+
+// The sink after a call, which is said.
+fn heard(
+    s: sink::State,
+    r: Received,
+    unit: &[u8],
+    held: &[u8],
+    done: &[u8],
+    store: &mut [u8],
+) -> sink::State {
+    let answer = r.answer;
+    match answer {
+        Answer::Refused(_) => {
+            bench_say::number(b"refused ", refusals::number(answer) as u64);
+            bench_say::text(b"\n");
+            return s;
+        }
+        Answer::Done => {}
+    }
+    say_received(r, unit, held, done, store);
+    r.state
 }
 
 // `sink`: the sink is fed the unit.
@@ -167,39 +182,36 @@ pub fn feed(
     unit: &[u8],
     held: &mut [u8],
     done: &mut [u8],
-    last: &mut [u8],
+    store: &mut [u8],
 ) -> sink::State {
     let characters = e.trace;
     let flags = e.flags;
     let r = sink::sink(s, e.label, &characters, flags, unit, held, done);
-    let answer = r.answer;
-    match answer {
-        Answer::Refused(_) => {
-            say::text(b"refused ");
-            say::decimal(refusals::number(answer) as u64);
-            say::text(b"\n");
-            return s;
-        }
-        Answer::Done => {}
-    }
-    say_received(r, unit, held, done, last);
-    r.state
+    heard(s, r, unit, held, done, store)
 }
 
-// `payload`: of the container handed back last.
-pub fn payload(ais: bool, last: &[u8]) {
-    let mut out = [0xeeu8; 2340];
-    let answer = container::payload_call(last, ais, &mut out);
+fn say_payload(answer: Answer, out: &[u8]) {
     match answer {
         Answer::Refused(_) => {
-            say::text(b"payload refused ");
-            say::decimal(refusals::number(answer) as u64);
-            say::text(b"\n");
+            bench_say::number(b"payload refused ", refusals::number(answer) as u64);
+            bench_say::text(b"\n");
             return;
         }
         Answer::Done => {}
     }
-    say::text(b"payload fnv=");
-    say::fnv(&out);
-    say::text(b"\n");
+    bench_say::text(b"payload fnv=");
+    bench_say::fnv(out);
+    bench_say::text(b"\n");
+}
+
+fn payload_of(ais: bool, last: &[u8]) {
+    let mut out = [0xeeu8; 2340];
+    let answer = container::payload_call(last, ais, &mut out);
+    say_payload(answer, &out);
+}
+
+// `payload`: of the container handed back last, which the store's end has.
+pub fn payload(ais: bool, store: &[u8]) {
+    let k = least(4698, store.len());
+    payload_of(ais, &store[k..]);
 }
