@@ -1,5 +1,5 @@
 // One line of a script: words with one blank between them, and the numbers and bytes that they stand for. A word is named by its place, the command's name being 0;
-// one that is not there has no bytes. Any bytes may be given.
+// one that is not there has no bytes. Any bytes may be given. Then the command that a line is.
 ghost use Prim.Native.Nat.{_≤_};
 ghost use lib.ListN.{length};
 use shape::Adjustment;

@@ -1,4 +1,4 @@
-// The sending half of the bench: a container source and a unit source, a queue of two containers, and what the container source is given.
+// The sending half of the bench: a container source and a unit source, a queue of two containers, and what the container source is given; and the commands on the line that they write.
 use bench_script::ONES;
 use bench_script::SHOW;
 use bench_script::WORD;
