@@ -5,7 +5,7 @@ ghost use lib.ListN.{length};
 
 mod hearing;
 
-use bench_script::CAT;
+use bench_hear::Expected;
 use bench_script::FILL;
 use bench_script::SINK;
 use bench_script::SRC;
@@ -14,7 +14,6 @@ use bench_script::WORD;
 use bench_script::least;
 use bench_send::Sent;
 use bench_send::Sources;
-use hearing::Expected;
 use libc::STDERR_FILENO;
 use libc::STDIN_FILENO;
 
@@ -128,36 +127,7 @@ fn started(sent: Sent, expected: Expected) -> Bench {
     }
 }
 
-// ---- settings
-
-fn rx(s: &[u8], number: u64, before: Expected) -> Expected {
-    let mut trace = [0u8; 15];
-    let label = bench_script::hex(s, 1, 1);
-    let n = bench_script::bytes(s, 2, &mut trace);
-    let flags = bench_script::decimal(s, 3, 15);
-    if !(label.good & n.good & (n.value == 15) & flags.good) {
-        bench_say::unknown(number);
-        return before;
-    }
-    Expected {
-        label: (label.value % 256) as u8,
-        trace,
-        flags: hearing::flags(flags.value),
-    }
-}
-
 // ---- held and done
-
-fn fill(s: &[u8], number: u64, held: &mut [u8], done: &mut [u8]) {
-    let h = bench_script::hex(s, 1, 1);
-    let d = bench_script::hex(s, 2, 1);
-    if !(h.good & d.good) {
-        bench_say::unknown(number);
-        return;
-    }
-    copier::fill(held, (h.value % 256) as u8);
-    copier::fill(done, (d.value % 256) as u8);
-}
 
 fn lens(s: &[u8], number: u64, before: Lengths, held: &mut [u8], done: &mut [u8]) -> Lengths {
     let h = bench_script::decimal(s, 1, 4096);
@@ -215,22 +185,6 @@ fn feed(b: Bench, line: &[u8], held: &mut [u8], done: &mut [u8], store: &mut [u8
     with_sink(b, after)
 }
 
-fn payload(s: &[u8], number: u64, store: &[u8]) {
-    let ais = bench_script::decimal(s, 1, 1);
-    if !ais.good {
-        bench_say::unknown(number);
-        return;
-    }
-    hearing::payload(ais.value == 1, store);
-}
-
-fn wipe(line: &mut [u8], held: &mut [u8], done: &mut [u8], store: &mut [u8]) {
-    copier::fill(line, 0);
-    copier::fill(held, 0);
-    copier::fill(done, 0);
-    copier::fill(store, 0);
-}
-
 // `fresh`: the settings stay.
 fn fresh(b: Bench) -> Bench {
     let sent = b.sent;
@@ -253,7 +207,7 @@ fn hear(
     if code == SINK {
         return feed(b, line, held, done, store);
     }
-    payload(s, number, store);
+    bench_hear::payload(s, number, store);
     b
 }
 
@@ -271,13 +225,13 @@ fn set(b: Bench, code: u8, s: &[u8], number: u64) -> Bench {
         return with_sent(b, sent);
     }
     let old = b.expected;
-    let expected = rx(s, number, old);
+    let expected = bench_hear::rx(s, number, old);
     with_expected(b, expected)
 }
 
 fn prepare(b: Bench, code: u8, s: &[u8], number: u64, held: &mut [u8], done: &mut [u8]) -> Bench {
     if code == FILL {
-        fill(s, number, held, done);
+        bench_send::fill_both(s, number, held, done);
         return b;
     }
     let old = b.lengths;
@@ -302,7 +256,7 @@ fn play_setting(
     if FILL <= code {
         return prepare(b, code, s, number, held, done);
     }
-    wipe(line, held, done, store);
+    bench_send::wipe(line, held, done, store);
     fresh(b)
 }
 
@@ -329,23 +283,6 @@ fn play_command(
     play_setting(b, code, s, number, line, held, done, store)
 }
 
-// The command of a line that changes something; 0 where there is none, since the line is skipped, not understood, or asks and is answered here.
-fn changing(s: &[u8], number: u64) -> u8 {
-    if bench_script::is_skipped(s) {
-        return 0;
-    }
-    let code = bench_script::command(s);
-    if code == 0 {
-        bench_say::unknown(number);
-        return 0;
-    }
-    if CAT <= code {
-        bench_ask::answer(code, s, number);
-        return 0;
-    }
-    code
-}
-
 fn play_line(
     b: Bench,
     s: &[u8],
@@ -355,7 +292,7 @@ fn play_line(
     done: &mut [u8],
     store: &mut [u8],
 ) -> Bench {
-    let code = changing(s, number);
+    let code = bench_ask::changing(s, number);
     if code == 0 {
         return b;
     }
@@ -414,7 +351,7 @@ fn play(script: &[u8]) {
         violations: 0,
         remote: false,
     };
-    let flags = hearing::flags(0);
+    let flags = bench_hear::flags(0);
     let expected = Expected {
         label: 1,
         trace: spaces,

@@ -147,7 +147,24 @@ fn answer_in(code: u8, s: &[u8], number: u64, work: &mut [u8; 524288]) {
     ask(code, s, number, work);
 }
 
-pub fn answer(code: u8, s: &[u8], number: u64) {
+fn answer(code: u8, s: &[u8], number: u64) {
     let mut work = [0u8; 524288];
     answer_in(code, s, number, &mut work);
+}
+
+// The command of a line that changes something; 0 where there is none, since the line is skipped, not understood, or asks and is answered here.
+pub fn changing(s: &[u8], number: u64) -> u8 {
+    if bench_script::is_skipped(s) {
+        return 0;
+    }
+    let code = bench_script::command(s);
+    if code == 0 {
+        bench_say::unknown(number);
+        return 0;
+    }
+    if CAT <= code {
+        answer(code, s, number);
+        return 0;
+    }
+    code
 }

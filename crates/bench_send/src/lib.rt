@@ -342,3 +342,24 @@ pub fn tx(s: &[u8], number: u64, before: Sent) -> Sent {
         remote: remote.value == 1,
     }
 }
+
+// ---- the buffers
+
+// `fill`: held and done.
+pub fn fill_both(s: &[u8], number: u64, held: &mut [u8], done: &mut [u8]) {
+    let h = bench_script::hex(s, 1, 1);
+    let d = bench_script::hex(s, 2, 1);
+    if !(h.good & d.good) {
+        bench_say::unknown(number);
+        return;
+    }
+    copier::fill(held, (h.value % 256) as u8);
+    copier::fill(done, (d.value % 256) as u8);
+}
+
+pub fn wipe(line: &mut [u8], held: &mut [u8], done: &mut [u8], store: &mut [u8]) {
+    copier::fill(line, 0);
+    copier::fill(held, 0);
+    copier::fill(done, 0);
+    copier::fill(store, 0);
+}
