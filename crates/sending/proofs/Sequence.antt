@@ -22,13 +22,13 @@ use Rattle.sending.proofs.Refused.{some-columns, source-done, source-ke
 -- ---- one call that is not refused
 
 module _ (s : Shape) (state : State) (c : Call) (done : called s state c .sent .answer ≡ Done) where
-  next-place : called s state c .sent .state .place ≡ (state .place + 1) % 16
+  pub next-place : called s state c .sent .state .place ≡ (state .place + 1) % 16
   unfolding stateAfter
   next-place =
       ap (λ (o : Outcome). o .sent .state .place) (source-done s state (c .given) (c .trace) (c .payload) (c .lent) done)
 
   -- the parity kept is that of the whole container, B3 among its bytes
-  next-parity : called s state c .sent .state .parity ≡ parityOf (called s state c .container)
+  pub next-parity : called s state c .sent .state .parity ≡ parityOf (called s state c .container)
   unfolding stateAfter
   next-parity =
       let e = source-done s state (c .given) (c .trace) (c .payload) (c .lent) done in

@@ -1,0 +1,11 @@
+pub mod Runs
+pub mod Labels
+pub mod Defects
+pub mod Gathers
+pub mod Traces
+pub mod Settles
+pub mod Sources
+pub mod Hits
+pub mod Strays
+pub mod Damage
+pub mod Examples

@@ -1,0 +1,1 @@
+// Theorems about the monitor: the containers of one source settle it, whatever its state. No code.
