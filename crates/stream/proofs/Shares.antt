@@ -28,7 +28,7 @@ use Rattle.stream.specs.Stream.{Sending, called, after, shareIn, share, 
 
 -- ---- the bytes of two containers, cut after k of them
 
-take-past : (x y : List ℕ) (n m : ℕ) → length x + m ≡ n → take n (x ++ y) ≡ x ++ take m y
+pub take-past : (x y : List ℕ) (n m : ℕ) → length x + m ≡ n → take n (x ++ y) ≡ x ++ take m y
 take-past x y n m e = ap (λ (j : ℕ). take j (x ++ y)) (sym e) ∙ take-append-add x y m
 
 -- what was sent, and the run after it, is a beginning of both containers
@@ -77,6 +77,16 @@ ended-few Nothing v = omega arith
 ended-few Increment v = by-test (λ (n : ℕ). n ≤ 2) (eqb v 0) (λ _. omega arith) (λ _. omega arith)
 ended-few Decrement v = by-test (λ (n : ℕ). n ≤ 2) (eqb v 1) (λ _. omega arith) (λ _. omega arith)
 
+-- a unit from where its run begins
+pub unit-run : (s : Shape) (a : Adjustment) (v : ℕ) (current next : List ℕ) → Fit s
+    → drop (runFrom (s .step) a) (unitSent s a v current next) ≡ runOf (unitLength s - runFrom (s .step) a) (heldCount s v) current next
+unfolding unitSent
+unit-run s a v current next f =
+    let from = runFrom (s .step) a in
+    let behind = run-begins (s .step) a .behind in
+    drop-at (headOf (s .step) (wordSent a v) from) (runOf (unitLength s - from) (heldCount s v) current next) from
+    (length-head (s .step) (wordSent a v) from (f .some) behind)
+
 module _ (s : Shape) (f : Fit s) (box : ℕ → List ℕ) where
   -- what a call that left o carried, whether it was done or refused
   pub record Carried (x : Sending) (a : Adjustment) (o : Outcome) : Type 0 where
@@ -87,7 +97,7 @@ module _ (s : Shape) (f : Fit s) (box : ℕ → List ℕ) where
   -- a unit that was written: its run goes on where the last one stopped
   unit-carried : (x : Sending) (a : Adjustment) (l : ℕ) → Ready s (x .state .offset) (length (box (x .number))) (length (box (x .number + 1))) l
       → Carried x a (record { made = record { answer = Done; ended = endedBy a (x .state .offset); state = stateAfter s a (x .state) }; unit = unitSent s a (x .state .offset) (box (x .number)) (box (x .number + 1)) })
-  unfolding shareIn unitSent stateAfter
+  unfolding shareIn stateAfter
   unit-carried x a l r =
       let v = x .state .offset in
       let b = box (x .number) in
@@ -102,7 +112,7 @@ module _ (s : Shape) (f : Fit s) (box : ℕ → List ℕ) where
       let k = ended-few a v in
       record {
         bytes =
-            ap (λ (y : List ℕ). take n b ++ y) (drop-at (headOf (s .step) (wordSent a v) from) (runOf room n b c) from (length-head (s .step) (wordSent a v) from (f .some) (begins .behind)))
+            ap (λ (y : List ℕ). take n b ++ y) (unit-run s a v b c f)
             ∙ run-joined b c n room (omega (arith, low, r .current-is))
             ∙ cut-both box (x .number) (s .size) (r .current-is) (r .next-is) (endedBy a v) (heldCount s (offsetAfter (s .top) a v)) (n + room) (omega (arith, e, begins .before, f .two)) (omega (arith, low, begins .behind, f .two)) (omega (arith, then, f .some));
         whole = length-both box (x .number) (s .size) (r .current-is) (r .next-is) (endedBy a v) k;
