@@ -48,7 +48,7 @@ module _ (s : Shape) (f : Fit s) (state : State) (c : Call) (d : called s state 
   abbrev a : After
   a = pointed s (state .pointer) (c .unit)
 
-  is-fed : Fed s state (length (c .unit)) (length (c .held)) (length (c .done))
+  pub is-fed : Fed s state (length (c .unit)) (length (c .held)) (length (c .done))
   is-fed = fed s state (c .expected .label) (c .expected .trace) (length (c .unit)) (length (c .held)) (length (c .done)) (sym (answer-is s state c) ∙ d)
 
   -- what it leaves
@@ -66,7 +66,7 @@ module _ (s : Shape) (f : Fit s) (state : State) (c : Call) (d : called s state 
     abbrev k : Cut
     k = cutIn s (a .taken) (offsetOf (a .pointer .state)) (state .held)
 
-    can : Receivable s (a .taken) (offsetOf (a .pointer .state)) (state .held) (c .unit) (c .held) (c .done)
+    pub can : Receivable s (a .taken) (offsetOf (a .pointer .state)) (state .held) (c .unit) (c .held) (c .done)
     can = receivable s state a (c .unit) (c .held) (c .done) (record { fit = f; fed = is-fed; after-is = refl }) (offsetOf (a .pointer .state)) true refl (sym n) refl
 
     -- WHAT IS HANDED BACK IS WHAT ENDED: in this order, each in its place

@@ -31,7 +31,7 @@ late-enough : (b : Bool) (wait : ℕ) → (b && ltb wait 3) ≡ false → b ≡ 
 late-enough true wait e h = ltb-false wait 3 e
 late-enough false wait e h = absurd (true≢false (sym h))
 
-wait-stops : (a : Adjustment) (wait : ℕ) → waitAfter a wait ≤ 3
+pub wait-stops : (a : Adjustment) (wait : ℕ) → waitAfter a wait ≤ 3
 unfolding waitAfter
 wait-stops Nothing wait = omega arith
 wait-stops Increment wait = omega arith
@@ -48,7 +48,7 @@ module _ (s : Shape) (f : Fit s) (box : ℕ → List ℕ) where
       (omega (arith, b .behind, b .before, f .two, held-low s (x .state .offset) f, h .full (x .number), h .full (x .number + 1)))
 
   -- a call whose adjustment does not come too soon is done
-  call-done : (x : Sending) (a : Adjustment) → Fine s box x → (adjusts a && ltb (x .state .wait) 3) ≡ false
+  pub call-done : (x : Sending) (a : Adjustment) → Fine s box x → (adjusts a && ltb (x .state .wait) 3) ≡ false
       → called s box x a ≡ record { made = record { answer = Done; ended = endedBy a (x .state .offset); state = stateAfter s a (x .state) }; unit = unitSent s a (x .state .offset) (box (x .number)) (box (x .number + 1)) }
   call-done x a h e =
       let ready : Ready s (x .state .offset) (length (box (x .number))) (length (box (x .number + 1))) (length (x .unit)) = record { offset-low = h .offset-low; current-is = h .full (x .number); next-is = h .full (x .number + 1); unit-is = h .unit-is } in
@@ -75,7 +75,7 @@ module _ (s : Shape) (f : Fit s) (box : ℕ → List ℕ) where
       let r = wrong-adjustment s (x .state) a l m (length (x .unit)) (outOfRange (s .top) (x .state)) refl range both (h .unit-is) (adjusts a) refl e in
       ap (λ (o : Outcome). isDone (o .made .answer)) (source-refused s (x .state) a (box (x .number)) (box (x .number + 1)) (x .unit) wrong.Adjustment (sym r))
 
-  fine-after : (x : Sending) (a : Adjustment) → Fine s box x → (adjusts a && ltb (x .state .wait) 3) ≡ false → Fine s box (after s box x a)
+  pub fine-after : (x : Sending) (a : Adjustment) → Fine s box x → (adjusts a && ltb (x .state .wait) 3) ≡ false → Fine s box (after s box x a)
   unfolding after stateAfter
   fine-after x a h e =
       rw (call-done x a h e)

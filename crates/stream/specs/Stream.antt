@@ -31,7 +31,9 @@ module _ (s : Shape) (box : ℕ → List ℕ) where
 
   -- as many containers further as it says ended
   unfoldable pub after : Sending → Adjustment → Sending
-  after x a = record { state = called x a .made .state; number = x .number + called x a .made .ended; unit = called x a .unit }
+  after x a =
+      let o = called x a in
+      record { state = o .made .state; number = x .number + o .made .ended; unit = o .unit }
 
   -- a unit's share: the container bytes in it, from where its run begins to its end
   unfoldable pub shareIn : Adjustment → Answer → List ℕ → List ℕ

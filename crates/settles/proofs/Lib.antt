@@ -1,0 +1,10 @@
+pub mod Kept
+pub mod Sources
+pub mod Units
+pub mod Along
+pub mod Count
+pub mod Watched
+pub mod Signal
+pub mod Every
+pub mod Settled
+pub mod Host

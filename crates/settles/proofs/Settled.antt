@@ -1,0 +1,217 @@
+-- DEMAND 3: a good signal settles within 66 units, and from the 67th every container comes back as sent. For every shape that fits and has 64 steps or more in a container,
+-- and from every state whose numbers are in range; and so from every state that calls can reach. Assumes nothing.
+use mathlib.Core.Path.{_≡_, refl, ap, subst, _∙_}
+use mathlib.Core.Bool.{Bool, true, false, cond}
+use Prim.Native.Nat.{ℕ, zero, suc, _+_, _-_, _*_, _%_, _≤_, _<_}
+use native.Mathlib.Nat.{add-suc, mul-le-mul-right, le-trans}
+use native.Mathlib.Omega.{arith}
+use lib.Dec.{leb}
+use lib.ListN.{length, replicate}
+use borrow.Author.Tests.{leb-true, leb-false}
+use Rattle.shape.specs.Shape.{Fit, au4}
+use Rattle.shape.specs.declared.Shape.{Shape}
+use Rattle.shape.proofs.Offsets.{au4-fit}
+use Rattle.shape.proofs.Examples.{tu3, tu3-fit}
+use Rattle.container_source.specs.Source as container-source
+use Rattle.overhead.specs.Violations.{keptOf}
+use Rattle.monitor.specs.Seeing.{seenIn}
+use Rattle.near.specs.Near.{Setting, Whole, enough}
+use Rattle.near.proofs.Settles.{Near, near-none, near-settled, near-free, setting}
+use Rattle.together.specs.Together.{boxes, violationsAll, violationsTold}
+use Rattle.sink.specs.Sink as sink
+use Rattle.reach.proofs.Ranges.{reached-in-range}
+use Rattle.settles.specs.Demand.{Run, Path, Making, Reached, Good, Settles, Demand, most, eight, Demand3, pathAt, sentAt, fedAt, unsettled}
+use Rattle.settles.proofs.Kept.{reached-whole, reached-total}
+use Rattle.settles.proofs.Sources as sources
+use Rattle.settles.proofs.Units.{Ready, Settable, defects-is}
+use Rattle.settles.proofs.Along.{Runs, five, along, late}
+use Rattle.settles.proofs.Count.{numberAt, goes-up, ends-enough}
+use Rattle.settles.proofs.Watched.{Sent, Chained, near-all, parity-on, none-violated-all}
+use Rattle.settles.proofs.Signal.{made-done, box-full, box-like, box-chained}
+use Rattle.settles.proofs.Every.{sent-all, fed-all, number-on, total-all, handed-all, monitor-all, told-all, settled-all, in-order-all}
+
+-- ---- the monitor along the run
+
+-- How near it is: so many containers were watched since the one whose number is `since`, the next of which has in J1 the byte of the message that is due, and the parity kept
+-- is that of the last
+record Watching (s : Shape) (r : Run) (place since : ℕ) (x : Path) : Type 0 where
+  many : ℕ
+  number-is : since + many ≡ x .source .number
+  near : Near (r .expected) ((place + x .source .number) % 16) many (x .state .monitor)
+  parity : (i : ℕ) → suc i ≡ x .source .number → 0 < many → x .state .monitor .parity ≡ keptOf (seenIn (s .columns) (r .box i) .parity)
+
+module _ (s : Shape) (r : Run) (u : Runs s r) (place : ℕ) (g : Setting (r .expected))
+    (like : (j : ℕ) → Sent (s .columns) (r .expected) (r .box) place j) (chain : (j : ℕ) → Chained (s .columns) (r .expected) (r .box) j) (steps : 64 * s .step ≤ s .size)
+  where
+    -- the container that is current as the third unit has passed, by which the sink is locked
+    since : ℕ
+    since = numberAt s r u 3
+
+    watching-on : (n : ℕ) → 3 ≤ n → Watching s r place since (pathAt s r n) → Watching s r place since (pathAt s r (suc n))
+    watching-on n w h =
+        let x = pathAt s r n in
+        let k = sentAt s r n .made .ended in
+        record {
+          many = h .many + k;
+          number-is = omega (arith, h .number-is, number-on s r u n);
+          near = rw (number-on s r u n, monitor-all s r u n w) (near-all (s .columns) (r .expected) (r .box) place (x .source .number) (h .many) k (x .state .monitor) g like (h .near));
+          parity = rw (number-on s r u n, monitor-all s r u n w) (parity-on (s .columns) (r .expected) (r .box) (x .source .number) (h .many) k (x .state .monitor) (h .parity));
+        }
+
+    watching : (j : ℕ) → Watching s r place since (pathAt s r (3 + j))
+    unfolding since
+    watching zero =
+        record {
+          many = 0;
+          number-is = omega arith;
+          near = near-none (r .expected) ((place + numberAt s r u 3) % 16) (pathAt s r 3 .state .monitor) (along s r u 3 .ready .whole);
+          parity = λ i e p. absurd (omega arith);
+        }
+    watching (suc j) = rw (add-suc 3 j) (watching-on (3 + j) (omega arith) (watching j))
+
+    watching-at : (n : ℕ) → 3 ≤ n → Watching s r place since (pathAt s r n)
+    watching-at n w = let e : 3 + (n - 3) ≡ n = omega arith in subst (λ (k : ℕ). Watching s r place since (pathAt s r k)) e (watching (n - 3))
+
+    -- as the 66th unit has passed, and later, at least 62 were watched; as the 67th has, 63
+    many-at : (j n : ℕ) → j ≤ 64 → 3 + j ≤ n → (w : 3 ≤ n) → j ≤ watching-at n w .many + 1
+    unfolding since
+    many-at j n a b w =
+        let few : j * s .step ≤ s .size = le-trans (mul-le-mul-right (s .step) a) steps in
+        let e : 3 + j + (n - (3 + j)) ≡ n = omega arith in
+        let up = rw e at (goes-up s r u (3 + j) (n - (3 + j))) in
+        omega (arith, ends-enough s r u 3 j few, up, watching-at n w .number-is)
+
+    -- ---- from the 67th unit on
+
+    module _ (n : ℕ) (w : most ≤ n) where
+      now : Watching s r place since (pathAt s r (suc n))
+      now = watching-at (suc n) (omega arith)
+
+      all-watched : enough ≤ now .many
+      unfolding now
+      all-watched = omega (arith, many-at 64 (suc n) (omega arith) (omega arith) (omega arith))
+
+      pub settled-then : fedAt s r n .received .settled ≡ true
+      settled-then =
+          settled-all s r u n (omega arith)
+          ∙ near-settled (r .expected) ((place + numberAt s r u (suc n)) % 16) (now .many) (pathAt s r (suc n) .state .monitor) (omega arith) all-watched (now .near)
+
+      pub free-then : fedAt s r n .received .defects ≡ sink.noDefects
+      unfolding pathAt
+      free-then =
+          defects-is s (u .fit) r (u .set) (pathAt s r n) (r .ask n) (along s r u n .ready) (late s r u n (pathAt s r n) (along s r u n))
+          ∙ near-free (r .expected) ((place + numberAt s r u (suc n)) % 16) (now .many) (pathAt s r (suc n) .state .monitor) (omega arith) all-watched (now .near)
+
+      pub clean-then : violationsTold (fedAt s r n .received .ended) ≡ replicate (sentAt s r n .made .ended) 0
+      clean-then =
+          told-all s r u n (omega arith)
+          ∙ go (numberAt s r u n) (watching-at n (omega arith) .number-is) (watching-at n (omega arith) .parity)
+        where
+          some : 0 < watching-at n (omega arith) .many
+          some = omega (arith, many-at 63 n (omega arith) (omega arith) (omega arith))
+
+          go : (i : ℕ) → since + watching-at n (omega arith) .many ≡ i
+              → ((j : ℕ) → suc j ≡ i → 0 < watching-at n (omega arith) .many → pathAt s r n .state .monitor .parity ≡ keptOf (seenIn (s .columns) (r .box j) .parity))
+              → violationsAll (s .columns) (r .expected) (pathAt s r n .state .monitor) (boxes (r .box) i (sentAt s r n .made .ended)) ≡ replicate (sentAt s r n .made .ended) 0
+          go zero e h = absurd (omega (arith, some))
+          go (suc i) e h =
+              none-violated-all (s .columns) (r .expected) (r .box) i (sentAt s r n .made .ended) (pathAt s r n .state .monitor) chain (h i refl some)
+
+    -- ---- the count of unsettled units
+
+    at-most : (n : ℕ) → unsettled s r n ≤ n
+    unfolding unsettled
+    at-most zero = omega arith
+    at-most (suc n) = omega (arith, at-most n, one (fedAt s r n .received .settled))
+      where
+        one : (b : Bool) → cond b 0 1 ≤ 1
+        one true = omega arith
+        one false = omega arith
+
+    no-more : (j : ℕ) → unsettled s r (most + j) ≤ most
+    unfolding unsettled
+    no-more zero = at-most most
+    no-more (suc j) =
+        rw (add-suc most j, settled-then (most + j) (omega arith)) (omega (arith, no-more j))
+
+    pub few-all : (n : ℕ) → unsettled s r n ≤ most
+    few-all n = go (leb n most) refl
+      where
+        go : (b : Bool) → leb n most ≡ b → unsettled s r n ≤ most
+        go true q = omega (arith, at-most n, leb-true n most q)
+        go false q = let e : most + (n - most) ≡ n = omega (arith, leb-false n most q) in rw e at (no-more (n - most))
+
+-- ---- from every state whose numbers are in range
+
+-- more than every state that calls can reach; the 15 places of the message that is gathered, and the total's sixteen bits, are by their types
+pub record InRange (s : Shape) (m : Making) (r : Run) : Type 0 where
+  pub state-in : sink.outOfRange s (r .state) ≡ false
+  pub total-low : r .state .total ≤ 65535
+  pub whole : Whole (r .state .monitor)
+  pub source-in : sources.InRange s (r .source)
+  pub first-in : m .first .place ≤ 15
+
+pub settles : (noneBefore : ℕ) (s : Shape) (m : Making) (r : Run) → five ≤ noneBefore → Fit s → 64 * s .step ≤ s .size → InRange s m r → Good noneBefore s m r → Settles most s m r
+unfolding pathAt
+settles noneBefore s m r some f steps i g =
+    let place = m .first .place in
+    let box-is = g .box-is in
+    let made = made-done s f m (r .expected) (i .first-in) (g .label-fine) (g .trace-fine) (g .given) in
+    let full : (k : ℕ) → length (r .box k) ≡ s .size =
+    λ k. ap length (box-is k) ∙ box-full s f m (r .expected) (i .first-in) (g .label-fine) (g .trace-fine) (g .given) k
+    in
+    let like : (k : ℕ) → Sent (s .columns) (r .expected) (r .box) place k =
+    λ k. rw (box-is k) (box-like s f m (r .expected) (i .first-in) (g .label-fine) (g .trace-fine) (g .given) k)
+    in
+    let chain : (k : ℕ) → Chained (s .columns) (r .expected) (r .box) k =
+    λ k. rw (box-is (suc k), box-is k) (box-chained s f m (r .expected) (i .first-in) (g .label-fine) (g .trace-fine) (g .given) k)
+    in
+    let ready : Ready s r (pathAt s r 0) =
+    record {
+      source-fine = record { offset-low = i .source-in .offset-low; wait-low = i .source-in .wait-low; full = full; unit-is = g .unit-is };
+      state-in = i .state-in;
+      total-low = i .total-low;
+      whole = i .whole;
+      held-is = g .held-is;
+      done-is = g .done-is;
+    }
+    in
+    let set : Settable r = record { label-fine = g .label-fine; trace-fine = g .trace-fine } in
+    let u : Runs s r = record { fit = f; set = set; ready = ready; spaced = record { quiet = λ n l. g .spaced .quiet n (omega arith); apart = g .spaced .apart } } in
+    let e : Setting (r .expected) = setting (r .expected) (g .label-fine) (g .trace-fine) (g .trace-is) in
+    record {
+      made-done = made;
+      sent-done = sent-all s r u;
+      fed-done = fed-all s r u;
+      few = few-all s r u place e like chain steps;
+      total-is = total-all s r u;
+      back = λ n w. handed-all s r u n (omega arith);
+      in-order = λ n units w. in-order-all s r u units n (omega arith);
+      no-violations = clean-then s r u place e like chain steps;
+      settled = settled-then s r u place e like chain steps;
+      no-defect = free-then s r u place e like chain steps;
+    }
+
+-- ---- and so from every state that calls can reach
+
+pub reached-in : (s : Shape) (m : Making) (r : Run) → Fit s → Reached s m r → InRange s m r
+reached-in s m r f h =
+    record {
+      state-in = rw (h .state-is) (reached-in-range s (h .received) f);
+      total-low = rw (h .state-is) (reached-total s (h .received));
+      whole = rw (h .state-is) (reached-whole s (h .received));
+      source-in = rw (h .source-is) (sources.source-low s _ (h .asked) (record { offset-low = omega arith; wait-low = omega arith }));
+      first-in = rw (h .first-is) (sources.made-low s container-source.freshState (h .made) (h .many) (omega arith));
+    }
+
+-- for every shape that fits, with no adjustment in the first five units or more
+pub demand : (noneBefore : ℕ) (s : Shape) → five ≤ noneBefore → Fit s → 64 * s .step ≤ s .size → Demand most noneBefore s
+demand noneBefore s some f steps m r h g = settles noneBefore s m r some f steps (reached-in s m r f h) g
+
+-- DEMAND 3
+pub demand-3 : Demand3
+demand-3 = demand eight au4 (omega arith) au4-fit (omega arith)
+
+-- and the same of TU-3, counted in its own frames
+pub demand-3-of-tu3 : Demand most eight tu3
+demand-3-of-tu3 = demand eight tu3 (omega arith) tu3-fit (omega arith)

@@ -1,0 +1,63 @@
+-- The containers of a container source that is given what is expected: no call of it is refused, each container is of the right length and carries what is expected, and its
+-- B3 is the parity of the one before. Assumes nothing.
+use mathlib.Core.Path.{_≡_, sym, subst, _∙_}
+use mathlib.Core.List.{List}
+use mathlib.Core.Bool.{false}
+use Prim.Native.Nat.{ℕ, zero, suc, _+_, _%_, _≤_}
+use native.Mathlib.Omega.{arith}
+use lib.ListN.{length}
+use Rattle.settings.specs.Settings.{labelRefused, traceRefused}
+use Rattle.refusals.specs.declared.Answer.the-variants.{Done}
+use Rattle.shape.specs.Shape.{Fit}
+use Rattle.shape.specs.declared.Shape.{Shape}
+use Rattle.container_source.specs.declared.State.{State}
+use Rattle.sending.specs.Run.{stateAt, outcomeAt, containerAt}
+use Rattle.sending.proofs.Refused.{sendable-source}
+use Rattle.sending.proofs.Payload.{length-sent}
+use Rattle.monitor.specs.Seeing.{seenIn}
+use Rattle.monitor.specs.declared.Expected.{Expected}
+use Rattle.near.specs.Near.{Like}
+use Rattle.near.proofs.Sources.{sent-like, sent-b3, sent-parity, sent-place}
+use Rattle.settles.specs.Demand.{Making, Given}
+use Rattle.settles.proofs.Sources.{made-low}
+use Rattle.settles.proofs.Watched.{Sent, Chained}
+
+module _ (s : Shape) (f : Fit s) (m : Making) (e : Expected) (low : m .first .place ≤ 15)
+    (label-fine : labelRefused (e .label) ≡ false) (trace-fine : traceRefused (e .trace) ≡ false) (given : (k : ℕ) → Given s e (m .calls k))
+  where
+    abbrev state : ℕ → State
+    state k = stateAt s (m .first) (m .calls) k
+
+    abbrev box : ℕ → List ℕ
+    box k = containerAt s (m .first) (m .calls) k
+
+    pub made-done : (k : ℕ) → outcomeAt s (m .first) (m .calls) k .sent .answer ≡ Done
+    made-done k =
+        let c = m .calls k in
+        let g = given k in
+        sendable-source s (state k) (c .given) (c .trace) (c .payload) (c .lent)
+        (record {
+          place-is = made-low s (m .first) (m .calls) k low;
+          label-is = rw (g .label-is) label-fine;
+          trace-is = rw (g .trace-is) trace-fine;
+          payload-is = g .payload-is;
+          container-is = g .container-is;
+          violations-is = g .violations-low;
+        })
+
+    pub box-full : (k : ℕ) → length (box k) ≡ s .size
+    box-full k = let c = m .calls k in length-sent s (state k) (c .given) (c .trace) (c .payload) (c .lent) f (made-done k)
+
+    place-is : (k : ℕ) → state k .place ≡ (m .first .place + k) % 16
+    unfolding stateAt
+    place-is zero = omega arith
+    place-is (suc k) = sent-place s f (state k) (m .calls k) (made-done k) ∙ omega (arith, place-is k)
+
+    pub box-like : (k : ℕ) → Sent (s .columns) e box (m .first .place) k
+    box-like k =
+        let g = given k in
+        subst (λ (i : ℕ). Like e i (seenIn (s .columns) (box k))) (place-is k) (sent-like s f (state k) (m .calls k) (made-done k) e (g .label-is) (g .trace-is) (g .no-remote))
+
+    pub box-chained : (k : ℕ) → Chained (s .columns) e box k
+    unfolding stateAt
+    box-chained k = sent-b3 s f (state (suc k)) (m .calls (suc k)) (made-done (suc k)) ∙ sym (sent-parity s f (state k) (m .calls k) (made-done k))

@@ -1,0 +1,193 @@
+-- DEMAND 3, over the definitions that the promises of the two sources and of the sink cite. In the words it was given in:
+--   "Take a sink in any state that calls can reach. Then feed it, with settings and buffer lengths that no number refuses, buffers kept between calls, the successive units
+--   of one source, given its containers in order, that sends the label and trace expected and no remote defect, settings unchanged, no pointer adjustment in the first eight
+--   units, and at least three plain units between adjustments later. At most 66 units of that run end unsettled, and the card's own unsettled total rises by exactly their
+--   number, up to its cap. From the 67th unit on, each container that ends is handed back as sent, byte for byte, in order, none lost or doubled, with zero parity violations
+--   and no defect."
+-- Units and containers are numbered from 0: unit n comes after n others. A row without end stands for its beginnings, so a run is of every length.
+use mathlib.Core.Path.{_≡_}
+use Prim.Native.Nat.{ℕ, zero, suc, _+_, _≤_, _<_, min}
+use mathlib.Core.Bool.{true, false, cond}
+use mathlib.Core.List.{List, [], _∷_, _++_}
+use lib.ListN.{length, replicate}
+use Rattle.settings.specs.Settings.{labelRefused, traceRefused}
+use Rattle.refusals.specs.declared.Answer.the-variants.{Done}
+use Rattle.shape.specs.Shape.{unitLength, au4}
+use Rattle.shape.specs.declared.Shape.{Shape}
+use Rattle.shape.specs.declared.Adjustment.{Adjustment}
+use Rattle.shape.specs.declared.Adjustment.the-variants.{Nothing}
+use Rattle.container.specs.Container.{payloadSize}
+use Rattle.container_source.specs.Source as container-source
+use Rattle.container_source.specs.declared.State as container-source-state
+use Rattle.sending.specs.Run as sending
+use Rattle.unit_source.specs.Source as unit-source
+use Rattle.unit_source.specs.declared.State as unit-source-state
+use Rattle.stream.specs.Stream as stream
+use Rattle.together.specs.Together.{boxes, violationsTold}
+use Rattle.monitor.specs.declared.Expected.{Expected}
+use Rattle.report.specs.declared.Flags.{Flags}
+use Rattle.sink.specs.Sink as sink
+use Rattle.sink.specs.declared.State as sink-state
+use Rattle.reach.specs.Reach as reach
+
+-- ---- the run
+
+-- what a run is of: the containers in order and what is asked for each unit, the sink's settings, the unit source and the sink before it, the buffers that are lent
+pub record Run : Type 0 where
+  pub box : ℕ → List ℕ
+  pub ask : ℕ → Adjustment
+  pub expected : Expected
+  pub flags : Flags
+  pub source : unit-source-state.State
+  pub state : sink-state.State
+  pub unit : List ℕ
+  pub held : List ℕ
+  pub done : List ℕ
+
+-- a path between two units: the unit source with the number of its current container and the lent unit, the sink's state, and the buffers that are kept for it
+pub record Path : Type 0 where
+  pub source : stream.Sending
+  pub state : sink-state.State
+  pub held : List ℕ
+  pub done : List ℕ
+
+module _ (s : Shape) (r : Run) where
+  -- the unit source is asked for a unit
+  abbrev pub sent : Path → Adjustment → unit-source.Outcome
+  sent x a = stream.called s (r .box) (x .source) a
+
+  -- and the sink is fed it
+  abbrev pub feeding : Path → Adjustment → reach.Call
+  feeding x a = record { expected = r .expected; flags = r .flags; unit = sent x a .unit; held = x .held; done = x .done }
+
+  abbrev pub fed : Path → Adjustment → sink.Outcome
+  fed x a = reach.called s (x .state) (feeding x a)
+
+  -- "given its containers in order", "buffers kept between calls"
+  unfoldable pub after : Path → Adjustment → Path
+  after x a =
+      let o = fed x a in
+      record { source = stream.after s (r .box) (x .source) a; state = o .received .state; held = o .held; done = o .done }
+
+  -- the path before unit n
+  unfoldable pub pathAt : ℕ → Path
+  pathAt zero = record { source = record { state = r .source; number = 0; unit = r .unit }; state = r .state; held = r .held; done = r .done }
+  pathAt (suc n) = after (pathAt n) (r .ask n)
+
+  -- unit n as it is sent, what the sink makes of it, and the containers that this hands back
+  abbrev pub sentAt : ℕ → unit-source.Outcome
+  sentAt n = sent (pathAt n) (r .ask n)
+
+  abbrev pub fedAt : ℕ → sink.Outcome
+  fedAt n = fed (pathAt n) (r .ask n)
+
+  abbrev pub handedAt : ℕ → List (List ℕ)
+  handedAt n = reach.handed s (feeding (pathAt n) (r .ask n)) (fedAt n)
+
+  -- how many of the first n units end unsettled
+  unfoldable pub unsettled : ℕ → ℕ
+  unsettled zero = 0
+  unsettled (suc n) = unsettled n + cond (fedAt n .received .settled) 0 1
+
+  -- what m units from unit n on hand back, and how many containers the source says ended in them
+  unfoldable pub handedFrom : ℕ → ℕ → List (List ℕ)
+  handedFrom n zero = []
+  handedFrom n (suc m) = handedAt n ++ handedFrom (suc n) m
+
+  unfoldable pub endedFrom : ℕ → ℕ → ℕ
+  endedFrom n zero = 0
+  endedFrom n (suc m) = sentAt n .made .ended + endedFrom (suc n) m
+
+-- ---- what is given
+
+-- a row of calls of a unit source, from the fresh state on, with any requests, containers and units
+pub record Asked : Type 0 where
+  pub request : Adjustment
+  pub current : List ℕ
+  pub next : List ℕ
+  pub unit : List ℕ
+
+unfoldable pub sourceAfter : Shape → unit-source-state.State → List Asked → unit-source-state.State
+sourceAfter s state [] = state
+sourceAfter s state (c ∷ cs) = sourceAfter s (unit-source.unitSource s state (c .request) (c .current) (c .next) (c .unit) .made .state) cs
+
+-- what the container source makes the containers of: its state before the run, and what each call is given
+pub record Making : Type 0 where
+  pub first : container-source-state.State
+  pub calls : ℕ → sending.Call
+
+-- "in any state that calls can reach", the sink and both sources
+pub record Reached (s : Shape) (m : Making) (r : Run) : Type 0 where
+  pub received : List reach.Call
+  pub state-is : r .state ≡ reach.reached s received
+  pub asked : List Asked
+  pub source-is : r .source ≡ sourceAfter s unit-source.freshState asked
+  pub made : ℕ → sending.Call
+  pub many : ℕ
+  pub first-is : m .first ≡ sending.stateAt s container-source.freshState made many
+
+-- "that sends the label and trace expected and no remote defect": any payload, any other overhead, any violations that can be returned
+pub record Given (s : Shape) (e : Expected) (c : sending.Call) : Type 0 where
+  pub label-is : c .given .label ≡ e .label
+  pub trace-is : c .trace ≡ e .trace
+  pub no-remote : c .given .remote ≡ false
+  pub violations-low : c .given .violations ≤ 8
+  pub payload-is : length (c .payload) ≡ payloadSize (s .columns)
+  pub container-is : length (c .lent) ≡ s .size
+
+-- "no pointer adjustment in the first eight units, and at least three plain units between adjustments later"; here in the first so many
+pub record Spaced (noneBefore : ℕ) (ask : ℕ → Adjustment) : Type 0 where
+  pub quiet : (n : ℕ) → n < noneBefore → ask n ≡ Nothing
+  pub apart : (m n : ℕ) → m < n → unit-source.adjusts (ask m) ≡ true → unit-source.adjusts (ask n) ≡ true → m + 3 < n
+
+-- a good signal
+pub record Good (noneBefore : ℕ) (s : Shape) (m : Making) (r : Run) : Type 0 where
+  -- "settings and buffer lengths that no number refuses"; a trace has 15 characters by its type
+  pub label-fine : labelRefused (r .expected .label) ≡ false
+  pub trace-fine : traceRefused (r .expected .trace) ≡ false
+  pub trace-is : length (r .expected .trace) ≡ 15
+  pub unit-is : length (r .unit) ≡ unitLength s
+  pub held-is : length (r .held) ≡ s .size
+  pub done-is : length (r .done) ≡ s .size
+  -- "one source, given its containers in order, that sends the label and trace expected": container k is the one that call k leaves
+  pub box-is : (k : ℕ) → r .box k ≡ sending.containerAt s (m .first) (m .calls) k
+  pub given : (k : ℕ) → Given s (r .expected) (m .calls k)
+  pub spaced : Spaced noneBefore (r .ask)
+
+-- ---- what then holds
+
+-- settles within so many units
+pub record Settles (within : ℕ) (s : Shape) (m : Making) (r : Run) : Type 0 where
+  -- no call is refused, of either source or of the sink
+  pub made-done : (k : ℕ) → sending.outcomeAt s (m .first) (m .calls) k .sent .answer ≡ Done
+  pub sent-done : (n : ℕ) → sentAt s r n .made .answer ≡ Done
+  pub fed-done : (n : ℕ) → fedAt s r n .received .answer ≡ Done
+  -- "At most 66 units of that run end unsettled"
+  pub few : (n : ℕ) → unsettled s r n ≤ within
+  -- "and the card's own unsettled total rises by exactly their number, up to its cap"
+  pub total-is : (n : ℕ) → pathAt s r n .state .total ≡ min (r .state .total + unsettled s r n) 65535
+  -- "From the 67th unit on, each container that ends is handed back as sent, byte for byte": those that the source says ended in the unit
+  pub back : (n : ℕ) → within ≤ n → handedAt s r n ≡ boxes (r .box) (pathAt s r n .source .number) (sentAt s r n .made .ended)
+  -- "in order, none lost or doubled": and so in any units one after the other
+  pub in-order : (n units : ℕ) → within ≤ n → handedFrom s r n units ≡ boxes (r .box) (pathAt s r n .source .number) (endedFrom s r n units)
+  -- "with zero parity violations": one 0 for each
+  pub no-violations : (n : ℕ) → within ≤ n → violationsTold (fedAt s r n .received .ended) ≡ replicate (sentAt s r n .made .ended) 0
+  -- "and no defect" at the end of the unit, which is settled
+  pub settled : (n : ℕ) → within ≤ n → fedAt s r n .received .settled ≡ true
+  pub no-defect : (n : ℕ) → within ≤ n → fedAt s r n .received .defects ≡ sink.noDefects
+
+-- of a shape: every run of a good signal, from any state that calls can reach
+abbrev pub Demand : ℕ → ℕ → Shape → Type 0
+Demand within noneBefore s = (m : Making) (r : Run) → Reached s m r → Good noneBefore s m r → Settles within s m r
+
+-- "At most 66 units"
+abbrev pub most : ℕ
+most = 66
+
+-- "the first eight units"
+abbrev pub eight : ℕ
+eight = 8
+
+-- DEMAND 3
+abbrev pub Demand3 : Type 0
+Demand3 = Demand most eight au4
