@@ -1,0 +1,123 @@
+-- The signal of specs/Signal.antt meets the hypotheses of demand 3, where what is asked of it is spaced. Assumes nothing.
+use mathlib.Core.Path.{_≡_, refl, sym, ap, ap₂, _∙_}
+use mathlib.Core.Bool.{Bool, true, false, _&&_}
+use mathlib.Core.List.{List}
+use Prim.Native.Nat.{ℕ, zero, suc, _+_, _%_, _≤_, _<_}
+use native.Mathlib.Omega.{arith}
+use lib.Dec.{eqb, ltb}
+use lib.ListN.{replicate}
+use borrow.Author.Tests.{eqb-true, ltb-true, ltb-false}
+use Rattle.laws.proofs.Tests.{and-left, and-right}
+use Rattle.parity.specs.Parity.{parityOf}
+use Rattle.trace.specs.Check as of-check
+use Rattle.settings.specs.Settings.{labelRefused, outside, traceRefused}
+use Rattle.refusals.specs.Refusals as of-refusals
+use Rattle.refusals.specs.declared.Answer.the-variants.{Done}
+use Rattle.shape.specs.Shape as of-shape
+use Rattle.shape.specs.Shape.{au4}
+use Rattle.shape.specs.declared.Adjustment.{Adjustment}
+use Rattle.container.specs.Container.{rowsOf}
+use Rattle.container_source.specs.Overhead.{j1Of, g1Of, overheadOf}
+use Rattle.container_source.specs.Source as container-source
+use Rattle.container_source.specs.Source.{containerSent, stateAfter}
+use Rattle.container_source.specs.declared.State.{State}
+use Rattle.sending.specs.Run.{called, stateAt, containerAt}
+use Rattle.sending.proofs.Refused.{sendable-source, source-done}
+use Rattle.unit_source.specs.Source as unit-source
+use Rattle.sink.specs.declared.State as sink
+use Rattle.reach.specs.Reach as reach
+use Rattle.settles.specs.Demand.{Reached, Spaced, Good, sourceAfter}
+use Rattle.tight.specs.Signal.{trace, given, container, call, callsFrom, making, asked, run}
+
+-- ---- the containers
+
+-- a test that holds of every number below n
+allBelow : (ℕ → Bool) → ℕ → Bool
+allBelow f zero = true
+allBelow f (suc n) = f n && allBelow f n
+
+below : (f : ℕ → Bool) (n : ℕ) → allBelow f n ≡ true → (i : ℕ) → i < n → f i ≡ true
+unfolding allBelow
+below f zero h i l = absurd (omega arith)
+below f (suc n) h i l = go (ltb i n) refl (below f n (and-right (f n) (allBelow f n) h) i)
+  where
+    go : (b : Bool) → ltb i n ≡ b → (i < n → f i ≡ true) → f i ≡ true
+    go true q rest = rest (ltb-true i n q)
+    go false q rest = let e : i ≡ n = omega (arith, ltb-false i n q) in ap f e ∙ and-left (f n) (allBelow f n) h
+
+-- the parity of each of the 16
+even : ℕ → Bool
+unfolding of-check.coefficients of-check.polynomial of-check.minus of-check.remainder of-check.number of-check.check7 of-check.startByte of-check.message parityOf rowsOf j1Of g1Of overheadOf containerSent trace given
+even place = eqb (parityOf (container place)) 0
+
+evens : allBelow even 16 ≡ true
+unfolding allBelow even
+evens = refl
+
+parity-none : (place : ℕ) → place < 16 → parityOf (container place) ≡ 0
+unfolding even
+parity-none place l = eqb-true (parityOf (container place)) 0 (below even 16 evens place l)
+
+-- so a source that began at a place with parity 00 goes on so
+module _ (p : ℕ) (low : p ≤ 15) where
+  abbrev first : State
+  first = record { place = p; parity = 0 }
+
+  abbrev here : ℕ → State
+  here k = record { place = (p + k) % 16; parity = 0 }
+
+  fine : (k : ℕ) → container-source.containerSource au4 (here k) (given ((p + k) % 16)) trace (replicate 2340 0) (replicate 2349 0) .sent .answer ≡ Done
+  unfolding given trace labelRefused outside traceRefused
+  fine k =
+      sendable-source au4 (here k) (given ((p + k) % 16)) trace (replicate 2340 0) (replicate 2349 0)
+      (record { place-is = omega arith; label-is = refl; trace-is = refl; payload-is = refl; container-is = refl; violations-is = omega arith })
+
+  state-is : (k : ℕ) → stateAt au4 first (callsFrom p) k ≡ here k
+  unfolding stateAt call stateAfter
+  state-is zero = let e : p ≡ (p + 0) % 16 = omega arith in ap (λ (i : ℕ). record { place = i; parity = 0 }) e
+  state-is (suc k) =
+      let i = (p + k) % 16 in
+      let e : (i + 1) % 16 ≡ (p + suc k) % 16 = omega arith in
+      ap (λ (x : State). called au4 x (call i) .sent .state) (state-is k)
+      ∙ (ap (λ (o : container-source.Outcome). o .sent .state) (source-done au4 (here k) (given i) trace (replicate 2340 0) (replicate 2349 0) (fine k))
+      ∙ ap₂ (λ (a b : ℕ). record { place = a; parity = b }) e (parity-none i (omega arith)))
+
+  container-is : (k : ℕ) → container ((p + k) % 16) ≡ containerAt au4 first (callsFrom p) k
+  unfolding call
+  container-is k =
+      let i = (p + k) % 16 in
+      sym
+      (ap (λ (x : State). called au4 x (call i) .container) (state-is k)
+      ∙ ap (λ (o : container-source.Outcome). o .container) (source-done au4 (here k) (given i) trace (replicate 2340 0) (replicate 2349 0) (fine k)))
+
+-- ---- the hypotheses
+
+module _ (place : ℕ) (low : place ≤ 15) (ask : ℕ → Adjustment) where
+  pub good : (noneBefore : ℕ) (state : sink.State) → Spaced noneBefore ask → Good noneBefore au4 (making place) (run place ask state)
+  unfolding call given trace labelRefused outside traceRefused
+  good noneBefore state spaced =
+      record {
+        label-fine = refl;
+        trace-fine = refl;
+        trace-is = refl;
+        unit-is = refl;
+        held-is = refl;
+        done-is = refl;
+        box-is = container-is place low;
+        given = λ k. record { label-is = refl; trace-is = refl; no-remote = refl; violations-low = omega arith; payload-is = refl; container-is = refl };
+        spaced = spaced;
+      }
+
+  pub reached : (calls : List reach.Call) → Reached au4 (making place) (run place ask (reach.reached au4 calls))
+  unfolding sourceAfter of-refusals.due of-refusals.outcome of-shape.downOf of-shape.offsetAfter unit-source.adjusts unit-source.outOfRange unit-source.makeFaults unit-source.waitAfter unit-source.stateAfter unit-source.unitSource
+  reached calls =
+      let e : place ≡ (0 + place) % 16 = omega arith in
+      record {
+        received = calls;
+        state-is = refl;
+        asked = asked;
+        source-is = refl;
+        made = callsFrom 0;
+        many = place;
+        first-is = ap (λ (i : ℕ). record { place = i; parity = 0 }) e ∙ sym (state-is 0 (omega arith) place);
+      }
