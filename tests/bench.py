@@ -5,9 +5,10 @@
     tests/bench.py --try SECOND SCRIPTS [SEEDS [UNITS]]
 
 BENCH reads a script on standard input; SECOND is the second program, asked with `bench`;
-SCRIPTS makes a script from a seed and a number of units. The first line that differs is
-printed with the script up to the line that caused it. Every case that the second program
-names must be met by some script.
+SCRIPTS makes a script from a seed and a number of units; the scripts under examples are
+played too, each on a fresh bench. The first line that differs is printed with the script
+up to the line that caused it. Every case that the second program names must be met by
+some random script.
 
 With --try there is no program yet: `rt try` compiles the bench's source in three ways
 (without optimisation, with it, and with the compiler's assumptions checked), and each
@@ -22,8 +23,10 @@ import sys
 import tempfile
 
 LIMIT = 120  # seconds for one run of one program
-MOST = 900000  # bytes of a script, and about so many of what is printed: the bench and `rt try` stop at 1048576
+MOST = 450000  # bytes of a script, or of what it prints: `rt try` stops at 1048576, and stops a run that takes long, as the checked build does on a busy machine
 ROOT = os.path.dirname(os.path.dirname(os.path.abspath(__file__)))
+# the bench as it begins, for a script that follows another
+BEGIN = b"fresh\ntx 01 202020202020202020202020202020 0 0\nrx 01 202020202020202020202020202020 0\n"
 
 
 def run(command, script, what, both=False):
@@ -74,10 +77,10 @@ def causing_line(second, script, place, what):
     return min(low, len(lines))
 
 
-def differ(seed, second, script, place, proved_line, second_line):
-    number = causing_line(second, script, place, f"seed {seed}")
+def differ(name, second, script, place, proved_line, second_line):
+    number = causing_line(second, script, place, name)
     lines = lines_of(script)
-    print(f"bench.py: seed {seed}: output line {place + 1} differs")
+    print(f"bench.py: {name}: output line {place + 1} differs")
     print(f"  proved: {text(proved_line)}")
     print(f"  second: {text(second_line)}")
     caused = text(lines[number - 1]) if number else "(none)"
@@ -89,7 +92,7 @@ def differ(seed, second, script, place, proved_line, second_line):
     sys.exit(1)
 
 
-def compare(seed, second, script, proved, expected):
+def compare(name, second, script, proved, expected):
     if proved == expected:
         return
     ours, theirs = lines_of(proved), lines_of(expected)
@@ -97,8 +100,8 @@ def compare(seed, second, script, proved, expected):
         a = ours[place] if place < len(ours) else None
         b = theirs[place] if place < len(theirs) else None
         if a != b:
-            differ(seed, second, script, place, a, b)
-    sys.exit(f"bench.py: seed {seed}: the outputs differ in their last LF alone")
+            differ(name, second, script, place, a, b)
+    sys.exit(f"bench.py: {name}: the outputs differ in their last LF alone")
 
 
 def tried(tree, script, expected, what):
@@ -122,27 +125,39 @@ def try_all(second, played):
         shutil.copytree(os.path.join(ROOT, "crates"), os.path.join(tree, "crates"))
         groups = [[]]
         size = 0
-        for seed, script, expected in played:
+        for name, script, expected in played:
             size += max(len(script), len(expected))
             if size > MOST:
                 groups.append([])
                 size = max(len(script), len(expected))
-            groups[-1].append((seed, script))
+            groups[-1].append((name, script))
         for group in groups:
-            seeds = f"seeds {group[0][0]} to {group[-1][0]}"
+            names = f"{group[0][0]} to {group[-1][0]}"
             script = b"".join(part for _, part in group)
-            said = tried(tree, script, run([second, "bench"], script, seeds), seeds)
+            said = tried(tree, script, run([second, "bench"], script, names), names)
             if said is None:
                 continue
-            for seed, part in group:
-                alone = tried(tree, part, run([second, "bench"], part, f"seed {seed}"), f"seed {seed}")
+            for name, part in group:
+                alone = tried(tree, part, run([second, "bench"], part, name), name)
                 if alone is not None:
-                    print(f"bench.py: seed {seed}: the bench prints something else\n{alone}\nthe script:")
+                    print(f"bench.py: {name}: the bench prints something else\n{alone}\nthe script:")
                     sys.stdout.flush()
                     sys.stdout.buffer.write(part)
                     sys.stdout.buffer.flush()
                     sys.exit(1)
-            sys.exit(f"bench.py: {seeds}, one after the other: the bench prints something else\n{said}")
+            sys.exit(f"bench.py: {names}, one after the other: the bench prints something else\n{said}")
+
+
+def examples():
+    """The scripts under examples, by name."""
+    found = []
+    for folder, _, files in os.walk(os.path.join(ROOT, "examples")):
+        for file in files:
+            if file.endswith(".bench"):
+                found.append(os.path.join(folder, file))
+    for path in sorted(found):
+        with open(path, "rb") as file:
+            yield os.path.relpath(path, ROOT), BEGIN + file.read()
 
 
 def number(argument, what):
@@ -167,9 +182,9 @@ def main():
         script = run([scripts, str(seed), str(units)], b"", what)
         expected, rules = run([second, "bench", "--rules"], script, what, both=True)
         if trying:
-            played.append((seed, script, expected))
+            played.append((what, script, expected))
         else:
-            compare(seed, second, script, run([bench], script, what), expected)
+            compare(what, second, script, run([bench], script, what), expected)
         for line in lines_of(expected):
             compared += 1
             if line.startswith(b"ok st="):
@@ -181,12 +196,20 @@ def main():
         for line in rules.decode().splitlines():
             name, count = line.rsplit(" ", 1)
             met[name] = met.get(name, 0) + int(count)
+    others = 0
+    for name, script in examples():
+        others += 1
+        expected = run([second, "bench"], script, name)
+        if trying:
+            played.append((name, script, expected))
+        else:
+            compare(name, second, script, run([bench], script, name), expected)
     if trying:
         try_all(second, played)
     never = [name for name, count in met.items() if count == 0]
     for name in never:
         print(f"bench.py: {name} was never met")
-    print(f"bench.py: {seeds} seeds, {compared} lines alike, {sinks} units (normal {states['normal']}, "
+    print(f"bench.py: {seeds} seeds and {others} examples; of the seeds {compared} lines alike, {sinks} units (normal {states['normal']}, "
           f"alarm {states['alarm']}, lost {states['lost']}, settled {settled}), {refused} refused, "
           f"{len(met) - len(never)} of {len(met)} cases met")
     if never or not met:
