@@ -1,9 +1,149 @@
-// The sink, fed with the line, and what it answers in print.
-use bench_hear::Expected;
+// The receiving half of the bench: the sink's settings, the sink fed with the line, what it answers in print, and the payload call.
+use crate::say;
+use crate::sending::least;
+use receiving::Ended;
+use receiving::Told;
 use refusals::Answer;
+use report::Actions;
+use report::Causes;
+use report::Defects;
+use report::Flags;
 use sink::Received;
 
-fn say_received(r: Received, unit: &[u8], held: &[u8], done: &[u8], store: &mut [u8]) {
+// The sink's settings.
+pub struct Expected {
+    pub label: u8,
+    pub trace: [u8; 15],
+    pub flags: Flags,
+}
+
+// The flags of a number as in the catalogue: 1 monitored, 2 RDI reported, 4 SSF reported, 8 AIS reported.
+pub fn flags(n: u32) -> Flags {
+    Flags {
+        monitored: n % 2 == 1,
+        rdi: n / 2 % 2 == 1,
+        ssf: n / 4 % 2 == 1,
+        ais: n / 8 % 2 == 1,
+    }
+}
+
+fn say_state(s: reading::State) {
+    match s {
+        reading::State::Normal(offset) => {
+            say::text(b"ok st=normal off=");
+            say::decimal(offset as u64);
+        }
+        reading::State::Alarm => {
+            say::text(b"ok st=alarm off=-");
+        }
+        reading::State::Lost => {
+            say::text(b"ok st=lost off=-");
+        }
+    }
+}
+
+// One container that ended: its bytes in the view, and what is told of it.
+fn say_container(container: &[u8], told: Told) {
+    say::text(b",");
+    say::fnv(container);
+    say::text(b",v=");
+    say::decimal(told.violations as u64);
+    say::text(b",fe=");
+    say::decimal(told.returned as u64);
+}
+
+// It is kept, since the buffer that it lies in will be written again.
+fn keep(container: &[u8], last: &mut [u8]) {
+    if container.len() == last.len() {
+        copier::copy(container, last);
+    }
+}
+
+fn say_completed(told: Told, done: &[u8], last: &mut [u8]) {
+    say::text(b" c=D@0");
+    say_container(done, told);
+    keep(done, last);
+}
+
+fn say_inside(told: Told, from: usize, unit: &[u8], last: &mut [u8]) {
+    let place = least(from, unit.len());
+    let n = least(2349, unit.len() - place);
+    let e = place + n;
+    say::text(b" c=U@");
+    say::decimal(from as u64);
+    say_container(&unit[place..e], told);
+    keep(&unit[place..e], last);
+}
+
+fn say_first(x: Ended, done: &[u8], last: &mut [u8]) {
+    let told = x.first;
+    if x.completed {
+        say_completed(told, done, last);
+    }
+}
+
+fn say_second(x: Ended, unit: &[u8], last: &mut [u8]) {
+    let told = x.second;
+    if x.inside {
+        say_inside(told, x.place, unit, last);
+    }
+}
+
+fn say_ended(x: Ended, unit: &[u8], done: &[u8], last: &mut [u8]) {
+    say::text(b" ended=");
+    say::decimal(x.number as u64);
+    say_first(x, done, last);
+    say_second(x, unit, last);
+}
+
+fn say_actions(a: Actions) {
+    say::text(b" ssf=");
+    say::bit(a.ssf);
+    say::text(b" tsf=");
+    say::bit(a.tsf);
+    say::text(b" ais=");
+    say::bit(a.ais);
+    say::text(b" rdi=");
+    say::bit(a.rdi);
+}
+
+fn say_defects(d: Defects) {
+    say::text(b" d=");
+    say::bit(d.uneq);
+    say::bit(d.tim);
+    say::bit(d.plm);
+    say::bit(d.rdi);
+}
+
+fn say_causes(c: Causes) {
+    say::text(b" cause=");
+    say::bit(c.ais);
+    say::bit(c.lop);
+    say::bit(c.ssf);
+    say::bit(c.uneq);
+    say::bit(c.tim);
+    say::bit(c.rdi);
+    say::bit(c.plm);
+}
+
+fn say_held(n: usize) {
+    say::text(b" held=");
+    say::decimal(n as u64);
+}
+
+fn say_end(settled: bool, total: u16, held: &[u8], done: &[u8]) {
+    say::text(b" settled=");
+    say::bit(settled);
+    say::text(b" total=");
+    say::decimal(total as u64);
+    say::text(b" hb=");
+    say::fnv(held);
+    say::text(b" db=");
+    say::fnv(done);
+    say::text(b"\n");
+}
+
+fn say_received(r: Received, unit: &[u8], held: &[u8], done: &[u8], last: &mut [u8]) {
     let s = r.state;
     let p = s.pointer;
     let state = p.state;
@@ -11,35 +151,13 @@ fn say_received(r: Received, unit: &[u8], held: &[u8], done: &[u8], store: &mut 
     let a = r.actions;
     let d = r.defects;
     let c = r.causes;
-    bench_hear::say_state(state);
-    bench_say::number(b" held=", s.held as u64);
-    bench_hear::say_ended(ended, unit, done, store);
-    bench_hear::say_actions(a);
-    bench_hear::say_defects(d);
-    bench_hear::say_causes(c);
-    bench_hear::say_end(r.settled, s.total, held, done);
-}
-
-// The sink after a call, which is said.
-fn heard(
-    s: sink::State,
-    r: Received,
-    unit: &[u8],
-    held: &[u8],
-    done: &[u8],
-    store: &mut [u8],
-) -> sink::State {
-    let answer = r.answer;
-    match answer {
-        Answer::Refused(_) => {
-            bench_say::number(b"refused ", refusals::number(answer) as u64);
-            bench_say::text(b"\n");
-            return s;
-        }
-        Answer::Done => {}
-    }
-    say_received(r, unit, held, done, store);
-    r.state
+    say_state(state);
+    say_held(s.held);
+    say_ended(ended, unit, done, last);
+    say_actions(a);
+    say_defects(d);
+    say_causes(c);
+    say_end(r.settled, s.total, held, done);
 }
 
 // `sink`: the sink is fed the unit.
@@ -49,10 +167,39 @@ pub fn feed(
     unit: &[u8],
     held: &mut [u8],
     done: &mut [u8],
-    store: &mut [u8],
+    last: &mut [u8],
 ) -> sink::State {
     let characters = e.trace;
     let flags = e.flags;
     let r = sink::sink(s, e.label, &characters, flags, unit, held, done);
-    heard(s, r, unit, held, done, store)
+    let answer = r.answer;
+    match answer {
+        Answer::Refused(_) => {
+            say::text(b"refused ");
+            say::decimal(refusals::number(answer) as u64);
+            say::text(b"\n");
+            return s;
+        }
+        Answer::Done => {}
+    }
+    say_received(r, unit, held, done, last);
+    r.state
+}
+
+// `payload`: of the container handed back last.
+pub fn payload(ais: bool, last: &[u8]) {
+    let mut out = [0xeeu8; 2340];
+    let answer = container::payload_call(last, ais, &mut out);
+    match answer {
+        Answer::Refused(_) => {
+            say::text(b"payload refused ");
+            say::decimal(refusals::number(answer) as u64);
+            say::text(b"\n");
+            return;
+        }
+        Answer::Done => {}
+    }
+    say::text(b"payload fnv=");
+    say::fnv(&out);
+    say::text(b"\n");
 }

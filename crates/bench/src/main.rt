@@ -1,21 +1,18 @@
 // The bench: reads a script on standard input and plays it on a container source, a unit source, a line and a sink. docs/BENCH.md has the language.
 // Its work is in the libraries; here a line of the script is understood and one of them called.
-ghost use Prim.Native.Nat.{_≤_};
-ghost use lib.ListN.{length};
-
+mod asking;
 mod hearing;
+mod say;
+mod script;
+mod sending;
 
-use bench_hear::Expected;
-use bench_script::FILL;
-use bench_script::SINK;
-use bench_script::SRC;
-use bench_script::TX;
-use bench_script::WORD;
-use bench_script::least;
-use bench_send::Sent;
-use bench_send::Sources;
+use hearing::Expected;
 use libc::STDERR_FILENO;
 use libc::STDIN_FILENO;
+use sending::Sent;
+use sending::Sources;
+use sending::least;
+use shape::Adjustment;
 
 // How much of the line, of held and of done there is.
 struct Lengths {
@@ -111,7 +108,7 @@ fn with_lengths(b: Bench, lengths: Lengths) -> Bench {
 
 // Fresh machines at the lengths of the start, with these settings.
 fn started(sent: Sent, expected: Expected) -> Bench {
-    let sources = bench_send::fresh();
+    let sources = sending::fresh();
     let sink = sink::fresh();
     let lengths = Lengths {
         line: 2358,
@@ -127,13 +124,309 @@ fn started(sent: Sent, expected: Expected) -> Bench {
     }
 }
 
+// The commands, each by a number; 0 is none. The number of words is the command's.
+const FRESH: u8 = 1;
+
+const FILL: u8 = 2;
+
+const LENS: u8 = 3;
+
+const TX: u8 = 4;
+
+const RX: u8 = 5;
+
+const SRC: u8 = 6;
+
+const WORD: u8 = 7;
+
+const XOR: u8 = 8;
+
+const ONES: u8 = 9;
+
+const LEN: u8 = 10;
+
+const SHOW: u8 = 11;
+
+const SINK: u8 = 12;
+
+const PAYLOAD: u8 = 13;
+
+const CAT: u8 = 14;
+
+const LOOKUP: u8 = 15;
+
+const LIST: u8 = 16;
+
+const PARITY: u8 = 17;
+
+const CHECK: u8 = 18;
+
+const READ: u8 = 19;
+
+// The command of a line of n words that takes no more than its name.
+fn alone(s: &[u8]) -> u8 {
+    if script::is(s, 0, b"fresh") {
+        return FRESH;
+    }
+    if script::is(s, 0, b"ones") {
+        return ONES;
+    }
+    if script::is(s, 0, b"show") {
+        return SHOW;
+    }
+    if script::is(s, 0, b"sink") {
+        return SINK;
+    }
+    0
+}
+
+// One that takes bytes in hex, or none.
+fn with_bytes(s: &[u8]) -> u8 {
+    if script::is(s, 0, b"cat") {
+        return CAT;
+    }
+    if script::is(s, 0, b"list") {
+        return LIST;
+    }
+    if script::is(s, 0, b"parity") {
+        return PARITY;
+    }
+    if script::is(s, 0, b"check") {
+        return CHECK;
+    }
+    if script::is(s, 0, b"read") {
+        return READ;
+    }
+    0
+}
+
+// One of two words.
+fn of_two(s: &[u8]) -> u8 {
+    if script::is(s, 0, b"src") {
+        return SRC;
+    }
+    if script::is(s, 0, b"word") {
+        return WORD;
+    }
+    if script::is(s, 0, b"len") {
+        return LEN;
+    }
+    if script::is(s, 0, b"payload") {
+        return PAYLOAD;
+    }
+    if script::is(s, 0, b"lookup") {
+        return LOOKUP;
+    }
+    with_bytes(s)
+}
+
+// One of three.
+fn of_three(s: &[u8]) -> u8 {
+    if script::is(s, 0, b"fill") {
+        return FILL;
+    }
+    if script::is(s, 0, b"lens") {
+        return LENS;
+    }
+    if script::is(s, 0, b"xor") {
+        return XOR;
+    }
+    if script::is(s, 0, b"lookup") {
+        return LOOKUP;
+    }
+    0
+}
+
+fn either(a: u8, b: u8) -> u8 {
+    if a == 0 { b } else { a }
+}
+
+// The command of a line.
+fn command(s: &[u8]) -> u8 {
+    let n = script::words(s);
+    if n == 1 {
+        return either(alone(s), with_bytes(s));
+    }
+    if n == 2 {
+        return of_two(s);
+    }
+    if n == 3 {
+        return of_three(s);
+    }
+    if (n == 4) & script::is(s, 0, b"rx") {
+        return RX;
+    }
+    if (n == 5) & script::is(s, 0, b"tx") {
+        return TX;
+    }
+    0
+}
+
+// ---- commands that ask
+
+// Those on bytes, `work` being where they go.
+fn ask(code: u8, s: &[u8], number: u64, work: &mut [u8]) {
+    let n = script::bytes(s, 1, work);
+    let e = least(n.value as usize, work.len());
+    if !n.good {
+        say::unknown(number);
+        return;
+    }
+    if code == CAT {
+        asking::check(&work[..e]);
+        return;
+    }
+    if code == LIST {
+        asking::list(&work[..e]);
+        return;
+    }
+    if code == PARITY {
+        asking::parity(&work[..e]);
+        return;
+    }
+    if code == CHECK {
+        asking::trace_check(&work[..e]);
+        return;
+    }
+    asking::read(&work[..e]);
+}
+
+fn lookup(s: &[u8], number: u64, work: &mut [u8]) {
+    let circuit = script::decimal(s, 1, 999999999);
+    let n = script::bytes(s, 2, work);
+    let e = least(n.value as usize, work.len());
+    if !(circuit.good & n.good) {
+        say::unknown(number);
+        return;
+    }
+    asking::lookup(circuit.value, &work[..e]);
+}
+
+// ---- commands on the line
+
+fn overwrite(s: &[u8], number: u64, unit: &mut [u8]) {
+    let w = script::hex(s, 1, 2);
+    if !w.good {
+        say::unknown(number);
+        return;
+    }
+    if unit.len() < 4 {
+        say::unknown(number);
+        return;
+    }
+    unit[0] = (w.value / 256 % 256) as u8;
+    unit[3] = (w.value % 256) as u8;
+}
+
+fn damage(s: &[u8], number: u64, unit: &mut [u8]) {
+    let i = script::decimal(s, 1, 4095);
+    let b = script::hex(s, 2, 1);
+    let k = i.value as usize;
+    if !(i.good & b.good) {
+        say::unknown(number);
+        return;
+    }
+    if unit.len() <= k {
+        say::unknown(number);
+        return;
+    }
+    unit[k] = unit[k] ^ (b.value % 256) as u8;
+}
+
+fn show(unit: &[u8]) {
+    say::text(b"line ");
+    say::all(unit);
+    say::text(b"\n");
+}
+
+// `len`: how long the line is then.
+fn measure(s: &[u8], number: u64, length: usize, line: &mut [u8]) -> usize {
+    let n = script::decimal(s, 1, 4096);
+    if !n.good {
+        say::unknown(number);
+        return length;
+    }
+    let k = n.value as usize;
+    sending::clear(line, length, k);
+    k
+}
+
+// A command on the line; how long it is then.
+fn on_line(code: u8, s: &[u8], number: u64, length: usize, line: &mut [u8]) -> usize {
+    let n = least(length, line.len());
+    if code == WORD {
+        overwrite(s, number, &mut line[..n]);
+        return length;
+    }
+    if code == XOR {
+        damage(s, number, &mut line[..n]);
+        return length;
+    }
+    if code == ONES {
+        copier::fill(&mut line[..n], 0xff);
+        return length;
+    }
+    if code == SHOW {
+        show(&line[..n]);
+        return length;
+    }
+    measure(s, number, length, line)
+}
+
+// ---- settings
+
+fn tx(s: &[u8], number: u64, before: Sent) -> Sent {
+    let mut trace = [0u8; 15];
+    let label = script::hex(s, 1, 1);
+    let n = script::bytes(s, 2, &mut trace);
+    let violations = script::decimal(s, 3, 255);
+    let remote = script::decimal(s, 4, 1);
+    if !(label.good & n.good & (n.value == 15) & violations.good & remote.good) {
+        say::unknown(number);
+        return before;
+    }
+    Sent {
+        label: (label.value % 256) as u8,
+        trace,
+        violations: (violations.value % 256) as u8,
+        remote: remote.value == 1,
+    }
+}
+
+fn rx(s: &[u8], number: u64, before: Expected) -> Expected {
+    let mut trace = [0u8; 15];
+    let label = script::hex(s, 1, 1);
+    let n = script::bytes(s, 2, &mut trace);
+    let flags = script::decimal(s, 3, 15);
+    if !(label.good & n.good & (n.value == 15) & flags.good) {
+        say::unknown(number);
+        return before;
+    }
+    Expected {
+        label: (label.value % 256) as u8,
+        trace,
+        flags: hearing::flags(flags.value),
+    }
+}
+
 // ---- held and done
 
-fn lens(s: &[u8], number: u64, before: Lengths, held: &mut [u8], done: &mut [u8]) -> Lengths {
-    let h = bench_script::decimal(s, 1, 4096);
-    let d = bench_script::decimal(s, 2, 4096);
+fn fill(s: &[u8], number: u64, held: &mut [u8], done: &mut [u8]) {
+    let h = script::hex(s, 1, 1);
+    let d = script::hex(s, 2, 1);
     if !(h.good & d.good) {
-        bench_say::unknown(number);
+        say::unknown(number);
+        return;
+    }
+    copier::fill(held, (h.value % 256) as u8);
+    copier::fill(done, (d.value % 256) as u8);
+}
+
+fn lens(s: &[u8], number: u64, before: Lengths, held: &mut [u8], done: &mut [u8]) -> Lengths {
+    let h = script::decimal(s, 1, 4096);
+    let d = script::decimal(s, 2, 4096);
+    if !(h.good & d.good) {
+        say::unknown(number);
         return before;
     }
     copier::fill(held, 0xaa);
@@ -147,27 +440,35 @@ fn lens(s: &[u8], number: u64, before: Lengths, held: &mut [u8], done: &mut [u8]
 
 // ---- the machines
 
-fn src(b: Bench, s: &[u8], number: u64, store: &mut [u8], line: &mut [u8]) -> Bench {
-    if !bench_script::is_request(s) {
-        bench_say::unknown(number);
+// Whether it is one of the three that `src` may be asked for.
+fn is_request(s: &[u8]) -> bool {
+    script::is(s, 1, b"-") | script::is(s, 1, b"i") | script::is(s, 1, b"d")
+}
+
+fn request(s: &[u8]) -> Adjustment {
+    if script::is(s, 1, b"i") {
+        return Adjustment::Increment;
+    }
+    if script::is(s, 1, b"d") {
+        return Adjustment::Decrement;
+    }
+    Adjustment::Nothing
+}
+
+fn src(b: Bench, s: &[u8], number: u64, queue: &mut [u8], line: &mut [u8]) -> Bench {
+    if !is_request(s) {
+        say::unknown(number);
         return b;
     }
     let lengths = b.lengths;
     let sources = b.sources;
     let sent = b.sent;
-    let l = bench_send::send_stored(
-        sources,
-        sent,
-        bench_script::request(s),
-        lengths.line,
-        store,
-        line,
-    );
+    let l = sending::send(sources, sent, request(s), lengths.line, queue, line);
     let after = l.sources;
     with_line(b, after, l.length)
 }
 
-fn feed(b: Bench, line: &[u8], held: &mut [u8], done: &mut [u8], store: &mut [u8]) -> Bench {
+fn feed(b: Bench, line: &[u8], held: &mut [u8], done: &mut [u8], last: &mut [u8]) -> Bench {
     let lengths = b.lengths;
     let before = b.sink;
     let expected = b.expected;
@@ -180,9 +481,25 @@ fn feed(b: Bench, line: &[u8], held: &mut [u8], done: &mut [u8], store: &mut [u8
         &line[..l],
         &mut held[..h],
         &mut done[..d],
-        store,
+        last,
     );
     with_sink(b, after)
+}
+
+fn payload(s: &[u8], number: u64, last: &[u8]) {
+    let ais = script::decimal(s, 1, 1);
+    if !ais.good {
+        say::unknown(number);
+        return;
+    }
+    hearing::payload(ais.value == 1, last);
+}
+
+fn wipe(line: &mut [u8], held: &mut [u8], done: &mut [u8], store: &mut [u8]) {
+    copier::fill(line, 0);
+    copier::fill(held, 0);
+    copier::fill(done, 0);
+    copier::fill(store, 0);
 }
 
 // `fresh`: the settings stay.
@@ -194,6 +511,19 @@ fn fresh(b: Bench) -> Bench {
 
 // ---- one line of the script, by groups of commands
 
+fn answer_in(code: u8, s: &[u8], number: u64, work: &mut [u8; 524288]) {
+    if code == LOOKUP {
+        lookup(s, number, work);
+        return;
+    }
+    ask(code, s, number, work);
+}
+
+fn answer(code: u8, s: &[u8], number: u64) {
+    let mut work = [0u8; 524288];
+    answer_in(code, s, number, &mut work);
+}
+
 fn hear(
     b: Bench,
     code: u8,
@@ -202,62 +532,41 @@ fn hear(
     line: &[u8],
     held: &mut [u8],
     done: &mut [u8],
-    store: &mut [u8],
+    last: &mut [u8],
 ) -> Bench {
     if code == SINK {
-        return feed(b, line, held, done, store);
+        return feed(b, line, held, done, last);
     }
-    bench_hear::payload(s, number, store);
+    payload(s, number, last);
     b
 }
 
 fn rewrite(b: Bench, code: u8, s: &[u8], number: u64, line: &mut [u8]) -> Bench {
     let lengths = b.lengths;
     let sources = b.sources;
-    let n = bench_send::on_line(code, s, number, lengths.line, line);
+    let n = on_line(code, s, number, lengths.line, line);
     with_line(b, sources, n)
 }
 
 fn set(b: Bench, code: u8, s: &[u8], number: u64) -> Bench {
     if code == TX {
         let old = b.sent;
-        let sent = bench_send::tx(s, number, old);
+        let sent = tx(s, number, old);
         return with_sent(b, sent);
     }
     let old = b.expected;
-    let expected = bench_hear::rx(s, number, old);
+    let expected = rx(s, number, old);
     with_expected(b, expected)
 }
 
 fn prepare(b: Bench, code: u8, s: &[u8], number: u64, held: &mut [u8], done: &mut [u8]) -> Bench {
     if code == FILL {
-        bench_send::fill_both(s, number, held, done);
+        fill(s, number, held, done);
         return b;
     }
     let old = b.lengths;
     let lengths = lens(s, number, old, held, done);
     with_lengths(b, lengths)
-}
-
-// Settings, buffers filled, and `fresh`.
-fn play_setting(
-    b: Bench,
-    code: u8,
-    s: &[u8],
-    number: u64,
-    line: &mut [u8],
-    held: &mut [u8],
-    done: &mut [u8],
-    store: &mut [u8],
-) -> Bench {
-    if TX <= code {
-        return set(b, code, s, number);
-    }
-    if FILL <= code {
-        return prepare(b, code, s, number, held, done);
-    }
-    bench_send::wipe(line, held, done, store);
-    fresh(b)
 }
 
 // One that is understood. `store` has the two containers queued, and the one handed back last.
@@ -271,16 +580,41 @@ fn play_command(
     done: &mut [u8],
     store: &mut [u8],
 ) -> Bench {
+    let k = least(4698, store.len());
     if SINK <= code {
-        return hear(b, code, s, number, line, held, done, store);
+        return hear(b, code, s, number, line, held, done, &mut store[k..]);
     }
     if WORD <= code {
         return rewrite(b, code, s, number, line);
     }
     if SRC <= code {
-        return src(b, s, number, store, line);
+        return src(b, s, number, &mut store[..k], line);
     }
-    play_setting(b, code, s, number, line, held, done, store)
+    if TX <= code {
+        return set(b, code, s, number);
+    }
+    if FILL <= code {
+        return prepare(b, code, s, number, held, done);
+    }
+    wipe(line, held, done, store);
+    fresh(b)
+}
+
+// The command of a line that changes something; 0 where there is none, since the line is skipped, not understood, or asks and is answered here.
+fn changing(s: &[u8], number: u64) -> u8 {
+    if script::is_skipped(s) {
+        return 0;
+    }
+    let code = command(s);
+    if code == 0 {
+        say::unknown(number);
+        return 0;
+    }
+    if CAT <= code {
+        answer(code, s, number);
+        return 0;
+    }
+    code
 }
 
 fn play_line(
@@ -292,28 +626,11 @@ fn play_line(
     done: &mut [u8],
     store: &mut [u8],
 ) -> Bench {
-    let code = bench_ask::changing(s, number);
+    let code = changing(s, number);
     if code == 0 {
         return b;
     }
     play_command(b, code, s, number, line, held, done, store)
-}
-
-// The line of a script from one place to another.
-fn play_part(
-    b: Bench,
-    script: &[u8],
-    from: usize,
-    end: usize,
-    number: u64,
-    line: &mut [u8],
-    held: &mut [u8],
-    done: &mut [u8],
-    store: &mut [u8],
-) -> Bench
-    requires { ⌜ (from ≤ end) × (end ≤ length (now script)) ⌝ }
-{
-    play_line(b, &script[from..end], number, line, held, done, store)
 }
 
 // The lines of a script, each with its number.
@@ -330,11 +647,11 @@ fn play_lines(
     let mut number = 1u64;
     while at < script.len() {
         let from = at;
-        let e = bench_script::find(script, from, 0x0a);
+        let e = script::find(script, from, 0x0a);
         let this = number;
         at = e + 1;
         number += 1;
-        b = play_part(b, script, from, e, this, line, held, done, store);
+        b = play_line(b, &script[from..e], this, line, held, done, store);
     }
 }
 
@@ -351,7 +668,7 @@ fn play(script: &[u8]) {
         violations: 0,
         remote: false,
     };
-    let flags = bench_hear::flags(0);
+    let flags = hearing::flags(0);
     let expected = Expected {
         label: 1,
         trace: spaces,
@@ -371,7 +688,7 @@ fn ended() -> bool {
 fn run(script: &mut [u8]) {
     let n = io::read_full(STDIN_FILENO, script);
     if 1048576 < n {
-        bench_say::text(b"script above 1048576 bytes\n");
+        say::text(b"script above 1048576 bytes\n");
         return;
     }
     if !ended() {

@@ -10,7 +10,7 @@ use Rattle.shape.specs.declared.Shape.{Shape}
 use Rattle.container_source.specs.Overhead.{j1Of, g1Of, overheadOf}
 use Rattle.container_source.specs.declared.State.{State}
 use Rattle.sending.specs.Run.{Call, called}
-use Rattle.sending.proofs.Sequence.{overhead-sent, next-place, next-parity}
+use Rattle.sending.proofs.Sequence.{overhead-sent, next-parity}
 use Rattle.overhead.specs.Defects.{remoteOf}
 use Rattle.monitor.specs.declared.Expected.{Expected}
 use Rattle.monitor.specs.Seeing.{seenIn}
@@ -41,7 +41,3 @@ module _ (s : Shape) (f : Fit s) (state : State) (c : Call) (done : called s sta
   pub sent-parity : seenIn (s .columns) (called s state c .container) .parity ≡ called s state c .sent .state .parity
   unfolding seenIn
   sent-parity = sym (next-parity s state c done)
-
-  -- the next byte is that at the next place
-  pub sent-place : called s state c .sent .state .place ≡ (state .place + 1) % 16
-  sent-place = next-place s state c done

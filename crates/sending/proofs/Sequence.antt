@@ -22,7 +22,7 @@ use Rattle.sending.proofs.Refused.{some-columns, source-done, source-ke
 -- ---- one call that is not refused
 
 module _ (s : Shape) (state : State) (c : Call) (done : called s state c .sent .answer ≡ Done) where
-  pub next-place : called s state c .sent .state .place ≡ (state .place + 1) % 16
+  next-place : called s state c .sent .state .place ≡ (state .place + 1) % 16
   unfolding stateAfter
   next-place =
       ap (λ (o : Outcome). o .sent .state .place) (source-done s state (c .given) (c .trace) (c .payload) (c .lent) done)
@@ -76,7 +76,8 @@ module _ (s : Shape) (state : State) (c : Call) (done : called s state c .sent .
 -- ---- from call to call
 
 module _ (s : Shape) (first : State) (calls : ℕ → Call) (n : ℕ) (f : Fit s) (ok : Unrefused s first calls n) where
-  place-at : (k : ℕ) → k < n → stateAt s first calls k .place ≡ (first .place + k) % 16
+  -- the place in the message goes on by one, modulo 16
+  pub place-at : (k : ℕ) → k < n → stateAt s first calls k .place ≡ (first .place + k) % 16
   unfolding stateAt
   place-at zero l = omega (arith, in-range s first (calls 0) (ok 0 l))
   place-at (suc k) l =

@@ -3,7 +3,7 @@
 use mathlib.Core.Path.{_≡_, sym, subst, _∙_}
 use mathlib.Core.List.{List}
 use mathlib.Core.Bool.{false}
-use Prim.Native.Nat.{ℕ, zero, suc, _+_, _%_, _≤_}
+use Prim.Native.Nat.{ℕ, suc, _≤_}
 use native.Mathlib.Omega.{arith}
 use lib.ListN.{length}
 use Rattle.settings.specs.Settings.{labelRefused, traceRefused}
@@ -14,10 +14,11 @@ use Rattle.container_source.specs.declared.State.{State}
 use Rattle.sending.specs.Run.{stateAt, outcomeAt, containerAt}
 use Rattle.sending.proofs.Refused.{sendable-source}
 use Rattle.sending.proofs.Payload.{length-sent}
+use Rattle.sending.proofs.Sequence.{place-at}
 use Rattle.monitor.specs.Seeing.{seenIn}
 use Rattle.monitor.specs.declared.Expected.{Expected}
 use Rattle.near.specs.Near.{Like}
-use Rattle.near.proofs.Sources.{sent-like, sent-b3, sent-parity, sent-place}
+use Rattle.near.proofs.Sources.{sent-like, sent-b3, sent-parity}
 use Rattle.settles.specs.Demand.{Making, Given}
 use Rattle.settles.proofs.Sources.{made-low}
 use Rattle.settles.proofs.Watched.{Sent, Chained}
@@ -48,15 +49,10 @@ module _ (s : Shape) (f : Fit s) (m : Making) (e : Expected) (low : m .first .pl
     pub box-full : (k : ℕ) → length (box k) ≡ s .size
     box-full k = let c = m .calls k in length-sent s (state k) (c .given) (c .trace) (c .payload) (c .lent) f (made-done k)
 
-    place-is : (k : ℕ) → state k .place ≡ (m .first .place + k) % 16
-    unfolding stateAt
-    place-is zero = omega arith
-    place-is (suc k) = sent-place s f (state k) (m .calls k) (made-done k) ∙ omega (arith, place-is k)
-
     pub box-like : (k : ℕ) → Sent (s .columns) e box (m .first .place) k
     box-like k =
         let g = given k in
-        subst (λ (i : ℕ). Like e i (seenIn (s .columns) (box k))) (place-is k) (sent-like s f (state k) (m .calls k) (made-done k) e (g .label-is) (g .trace-is) (g .no-remote))
+        subst (λ (i : ℕ). Like e i (seenIn (s .columns) (box k))) (place-at s (m .first) (m .calls) (suc k) f (λ j _. made-done j) k (omega arith)) (sent-like s f (state k) (m .calls k) (made-done k) e (g .label-is) (g .trace-is) (g .no-remote))
 
     pub box-chained : (k : ℕ) → Chained (s .columns) e box k
     unfolding stateAt

@@ -1,13 +1,13 @@
 -- The signal of specs/Signal.antt meets the hypotheses of demand 3, where what is asked of it is spaced. Assumes nothing.
 use mathlib.Core.Path.{_≡_, refl, sym, ap, ap₂, _∙_}
-use mathlib.Core.Bool.{Bool, true, false, _&&_}
+use mathlib.Core.Bool.{Bool, true}
 use mathlib.Core.List.{List}
 use Prim.Native.Nat.{ℕ, zero, suc, _+_, _%_, _≤_, _<_}
 use native.Mathlib.Omega.{arith}
-use lib.Dec.{eqb, ltb}
+use lib.Dec.{eqb}
 use lib.ListN.{replicate}
-use borrow.Author.Tests.{eqb-true, ltb-true, ltb-false}
-use Rattle.laws.proofs.Tests.{and-left, and-right}
+use borrow.Author.Tests.{eqb-true}
+use Rattle.laws.proofs.Tables.{every, every-at}
 use Rattle.parity.specs.Parity.{parityOf}
 use Rattle.trace.specs.Check as of-check
 use Rattle.settings.specs.Settings.{labelRefused, outside, traceRefused}
@@ -31,32 +31,18 @@ use Rattle.tight.specs.Signal.{trace, given, container, call, callsFrom,
 
 -- ---- the containers
 
--- a test that holds of every number below n
-allBelow : (ℕ → Bool) → ℕ → Bool
-allBelow f zero = true
-allBelow f (suc n) = f n && allBelow f n
-
-below : (f : ℕ → Bool) (n : ℕ) → allBelow f n ≡ true → (i : ℕ) → i < n → f i ≡ true
-unfolding allBelow
-below f zero h i l = absurd (omega arith)
-below f (suc n) h i l = go (ltb i n) refl (below f n (and-right (f n) (allBelow f n) h) i)
-  where
-    go : (b : Bool) → ltb i n ≡ b → (i < n → f i ≡ true) → f i ≡ true
-    go true q rest = rest (ltb-true i n q)
-    go false q rest = let e : i ≡ n = omega (arith, ltb-false i n q) in ap f e ∙ and-left (f n) (allBelow f n) h
-
 -- the parity of each of the 16
 even : ℕ → Bool
 unfolding of-check.coefficients of-check.polynomial of-check.minus of-check.remainder of-check.number of-check.check7 of-check.startByte of-check.message parityOf rowsOf j1Of g1Of overheadOf containerSent trace given
 even place = eqb (parityOf (container place)) 0
 
-evens : allBelow even 16 ≡ true
-unfolding allBelow even
+evens : every 16 even ≡ true
+unfolding even
 evens = refl
 
 parity-none : (place : ℕ) → place < 16 → parityOf (container place) ≡ 0
 unfolding even
-parity-none place l = eqb-true (parityOf (container place)) 0 (below even 16 evens place l)
+parity-none place l = eqb-true (parityOf (container place)) 0 (every-at 16 even evens place l)
 
 -- so a source that began at a place with parity 00 goes on so
 module _ (p : ℕ) (low : p ≤ 15) where

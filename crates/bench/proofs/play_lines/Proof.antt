@@ -34,29 +34,38 @@ add-at c = omega arith
 add-number : tie.Need-add-number Inv-loop μ-loop
 add-number c = omega arith
 
-play-part-requires : tie.Need-play-part-requires Inv-loop μ-loop
-play-part-requires c κs = let k = c .before .before .before .before .find in (k .ensures .0, k .ensures .1)
+sub-play-line : tie.Need-sub-play-line Inv-loop μ-loop
+sub-play-line c = omega arith
+
+part-play-line-start : tie.Need-part-play-line-start Inv-loop μ-loop
+part-play-line-start c = omega arith
+
+part-play-line-end : tie.Need-part-play-line-end Inv-loop μ-loop
+part-play-line-end c = omega arith
+
+play-line-requires : tie.Need-play-line-requires Inv-loop μ-loop
+play-line-requires c κs = search needs
 
 loop-less : tie.Need-loop-less Inv-loop μ-loop
 loop-less c =
-    let k = c .before .before .before .before .before .before .before .before .before .before .before .before .before in
+    let k = c .before .before .before .before .before .before .before .before .before .before .before .before .before .before in
     fewer _ _ _ (k .find .ensures .0) (k .before .loop-test .taken)
 
 loop-again : tie.Need-loop-again Inv-loop μ-loop
 loop-again c =
-    let k = c .before .before .before .before .before .before .before .before .before .before .before .before .before in
+    let k = c .before .before .before .before .before .before .before .before .before .before .before .before .before .before in
     let l = k .before .before .loop in
-    let p = c .before .before .before .before .before .before .before .before .play-part in (
+    let p = c .before .before .before .before .before .before .before .before .play-line in (
       within _ _ (k .find .ensures .1),
       (
         counted _ _ _ (k .find .ensures .0) (l .inv .1 .0),
         (
-          p .kept .1 .1 .1 .1 .1 .0 ∙ l .inv .1 .1 .0,
+          p .kept .1 .1 .1 .0 ∙ l .inv .1 .1 .0,
           (
-            p .kept .1 .1 .1 .1 .1 .1 .0 ∙ l .inv .1 .1 .1 .0,
+            p .kept .1 .1 .1 .1 .0 ∙ l .inv .1 .1 .1 .0,
             (
-              p .kept .1 .1 .1 .1 .1 .1 .1 .0 ∙ l .inv .1 .1 .1 .1 .0,
-              p .kept .1 .1 .1 .1 .1 .1 .1 .1 .0 ∙ l .inv .1 .1 .1 .1 .1,
+              p .kept .1 .1 .1 .1 .1 .0 ∙ l .inv .1 .1 .1 .1 .0,
+              p .kept .1 .1 .1 .1 .1 .1 .0 ∙ l .inv .1 .1 .1 .1 .1,
             ),
           ),
         ),
@@ -88,7 +97,10 @@ play-lines-spec =
     find-requires
     add-at
     add-number
-    play-part-requires
+    sub-play-line
+    part-play-line-start
+    part-play-line-end
+    play-line-requires
     loop-less
     loop-again
     same-length

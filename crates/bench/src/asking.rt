@@ -1,0 +1,92 @@
+// Commands that ask and change nothing: the catalogue's three, and the host's three functions.
+use crate::say;
+use catalogue::Checked;
+use catalogue::Found;
+use records::Refusal;
+
+fn say_place(p: usize) {
+    say::text(b" ");
+    say::decimal(p as u64);
+}
+
+fn say_refusal(x: Refusal) {
+    say::decimal(records::number(x) as u64);
+    match x {
+        Refusal::Length => {}
+        Refusal::Mark(p) => say_place(p),
+        Refusal::Circuit(p) => say_place(p),
+        Refusal::Label(p) => say_place(p),
+        Refusal::Trace(p) => say_place(p),
+        Refusal::Flags(p) => say_place(p),
+        Refusal::Repeated(later, first) => {
+            say_place(later);
+            say_place(first);
+        }
+        Refusal::NotListed => {}
+    }
+}
+
+// `cat`
+pub fn check(s: &[u8]) {
+    match catalogue::check(s) {
+        Checked::Good(n) => {
+            say::text(b"cat ok ");
+            say::decimal(n as u64);
+        }
+        Checked::Refused(x) => {
+            say::text(b"cat refused ");
+            say_refusal(x);
+        }
+    }
+    say::text(b"\n");
+}
+
+// `lookup`
+pub fn lookup(number: u32, s: &[u8]) {
+    let l = catalogue::lookup(s, number);
+    let found = l.found;
+    let characters = l.trace;
+    match found {
+        Found::Entry(label, flags) => {
+            say::text(b"found ");
+            say::hex(label);
+            say::text(b" ");
+            say::all(&characters);
+            say::text(b" ");
+            say::decimal(flags as u64);
+        }
+        Found::Not(x) => {
+            say::text(b"lookup refused ");
+            say_refusal(x);
+        }
+    }
+    say::text(b"\n");
+}
+
+// `list`
+pub fn list(s: &[u8]) {
+    let mut out = [0u8; 15898];
+    let n = listing::list(s, &mut out);
+    say::text(&out[..n]);
+}
+
+// `parity`
+pub fn parity(s: &[u8]) {
+    say::text(b"parity ");
+    say::hex(parity::parity(s));
+    say::text(b"\n");
+}
+
+// `check`
+pub fn trace_check(s: &[u8]) {
+    say::text(b"check ");
+    say::bit(trace::trace_check(s));
+    say::text(b"\n");
+}
+
+// `read`
+pub fn read(s: &[u8]) {
+    say::text(b"read ");
+    say::decimal(word::reading(s) as u64);
+    say::text(b"\n");
+}
