@@ -2,8 +2,10 @@
 use mathlib.Core.Path.{_≡_, refl, sym, ap, _∙_}
 use mathlib.Core.Bool.{Bool, true, false, cond, false≢true}
 use mathlib.Core.List.{List}
-use Prim.Native.Nat.{ℕ, _+_, _-_, _*_, _<_, _≤_}
+use Prim.Native.Nat.{ℕ, zero, suc, _+_, _-_, _*_, _<_, _≤_}
 use native.Mathlib.Omega.{arith}
+use native.Mathlib.Numerals.{add-one}
+use lib.Dec.{eqb}
 use lib.ListN.{length, take, drop}
 use Rattle.copier.proofs.Parts.{length-part}
 use Rattle.shape.specs.Shape.{Fit, unitLength, placeOf, runFrom}
@@ -21,9 +23,11 @@ use Rattle.monitor.specs.declared.Overhead.{Overhead}
 use Rattle.monitor.specs.declared.Expected.{Expected}
 use Rattle.monitor.specs.declared.Seen.{Seen}
 use Rattle.receiving.specs.declared.Begin.{Begin}
+use Rattle.receiving.specs.declared.Both.{Both}
 use Rattle.receiving.specs.declared.Ended.{Ended}
 use Rattle.receiving.specs.declared.Left.{Left}
-use Rattle.receiving.specs.Receiving.{forgot, fromIn, beginIn, cutIn, watched, endedIn, bothSeen, received, Leaves, Watchable, Seeable, Receivable}
+use Rattle.receiving.specs.Turns.{seenWhere, takenIn, turned, takenBoth}
+use Rattle.receiving.specs.Receiving.{forgot, fromIn, beginIn, cutIn, notSeen, watched, endedIn, leftBy, bothSeen, received, Leaves, Inside, Seeable, Receivable}
 
 -- ---- what is watched
 
@@ -36,16 +40,6 @@ watched-done : (s : Shape) (c : Cut) (unit held done : List ℕ) (e : Expected) 
 unfolding watched doneOf
 watched-done s c unit held done e m true h = rw h refl
 watched-done s c unit held done e m false h = refl
-
--- what is seen in the unit is its part, where one is inside
-watched-inside : (s : Shape) (c : Cut) (unit : List ℕ) (e : Expected) (m : Monitor) (b : Bool)
-    → watched b (s .columns) (take (cond b (c .next) 0 + cond b (s .size) 0 - cond b (c .next) 0) (drop (cond b (c .next) 0) unit)) e m
-    ≡ watched b (s .columns) (insidePart s c unit) e m
-unfolding watched insidePart
-watched-inside s c unit e m true =
-    let q : c .next + s .size - c .next ≡ s .size = omega arith in
-    rw q refl
-watched-inside s c unit e m false = refl
 
 -- ---- each part, by its test
 
@@ -66,15 +60,21 @@ pub from-goes : (s : Shape) (restart : Bool) (a : Adjustment) (offset r : ℕ) �
 unfolding fromIn
 from-goes s restart a offset r h e = rw h e
 
-pub watched-ended : (ended : Bool) (columns : ℕ) (container : List ℕ) (e : Expected) (m : Monitor) (o : Overhead) (r : Seen)
-    → ended ≡ true → o ≡ seenIn columns container → r ≡ seenOf m o e → r ≡ watched ended columns container e m
-unfolding watched
-watched-ended ended columns container e m o r h i j = rw (h, ← i) j
+pub seen-ended : (ended : Bool) (columns : ℕ) (container : List ℕ) (o : Overhead) → ended ≡ true → o ≡ seenIn columns container → o ≡ seenWhere ended columns container
+seen-ended ended columns container o h j = rw h j
 
-pub watched-none : (ended : Bool) (columns : ℕ) (container : List ℕ) (e : Expected) (m : Monitor)
-    → ended ≡ false → record { monitor = m; violations = 0; returned = 0 } ≡ watched ended columns container e m
+pub taken-ended : (ended : Bool) (o : Overhead) (e : Expected) (m : Monitor) (r : Seen) → ended ≡ true → r ≡ seenOf m o e → r ≡ takenIn ended o e m
+taken-ended ended o e m r h j = rw h j
+
+pub taken-none : (ended : Bool) (o : Overhead) (e : Expected) (m : Monitor) (r : Seen) → ended ≡ false → r ≡ notSeen m → r ≡ takenIn ended o e m
+taken-none ended o e m r h j = rw h j
+
+-- what is seen where it ended, taken in where it ended
+taken-watched : (ended : Bool) (columns : ℕ) (container : List ℕ) (e : Expected) (m : Monitor)
+    → takenIn ended (seenWhere ended columns container) e m ≡ watched ended columns container e m
 unfolding watched
-watched-none ended columns container e m h = rw h refl
+taken-watched true columns container e m = refl
+taken-watched false columns container e m = refl
 
 pub ended-told : (c : Cut) (first second : Seen) (a b p : ℕ) → a ≡ cond (c .ends) 1 0 → b ≡ cond (c .inside) 1 0 → p ≡ cond (c .inside) (c .next) 0
     → record {
@@ -90,39 +90,65 @@ unfolding endedIn endedCount
 ended-told c first second a b p h i j = rw (h, i, j) refl
 
 -- what can be watched is long enough
-pub asked-long : (ended : Bool) (columns : ℕ) (container : List ℕ) → Watchable ended columns container → ended ≡ true → 3 * columns < length container
-asked-long ended columns container w h = w .long h
+pub done-long : (s : Shape) (done : List ℕ) → Fit s → length done ≡ s .size → (0 < s .columns) × (3 * s .columns < length done)
+done-long s done f l = (some-columns s f, omega (arith, l, some-columns s f, f .nine))
+
+module _ (s : Shape) (c : Cut) (unit : List ℕ) (w : Inside s c unit) (h : c .inside ≡ true) where
+  pub end-low : c .next + s .size ≤ unitLength s
+  end-low = omega (arith, w .within h, w .low)
+
+  part-is : take (c .next + s .size - c .next) (drop (c .next) unit) ≡ insidePart s c unit
+  unfolding insidePart
+  part-is =
+      let q : c .next + s .size - c .next ≡ s .size = omega arith in
+      rw q refl
+
+  pub part-long : (0 < s .columns) × (3 * s .columns < length (take (c .next + s .size - c .next) (drop (c .next) unit)))
+  part-long =
+      let l = length-part unit (c .next) (s .size) (w .within h) in
+      (some-columns s (w .fit), omega (arith, l, some-columns s (w .fit), w .fit .nine))
+
+  pub seen-part : (o : Overhead) → o ≡ seenIn (s .columns) (take (c .next + s .size - c .next) (drop (c .next) unit))
+      → o ≡ seenWhere (c .inside) (s .columns) (insidePart s c unit)
+  seen-part o j = seen-ended (c .inside) (s .columns) (insidePart s c unit) o h (rw part-is at j)
 
 -- ---- what is seen of both
 
-module _ (s : Shape) (c : Cut) (unit done : List ℕ) (w : Seeable s c unit done) (place n : ℕ)
-    (place-is : place ≡ cond (c .inside) (c .next) 0) (n-is : n ≡ cond (c .inside) (s .size) 0)
-  where
-    within : (b : Bool) → c .inside ≡ b → place ≡ cond b (c .next) 0 → n ≡ cond b (s .size) 0 → (place + n ≤ unitLength s) × (b ≡ true → n ≡ s .size)
-    within true h p k = let f = w .within h in (omega (arith, w .low), λ _. k)
-    within false h p k = (omega arith, λ e. absurd (false≢true e))
+pub left-by : (c : Cut) (first second : Seen) (ended : Ended) → ended ≡ endedIn c first second
+    → record { monitor = second .monitor; held = c .left; ended = ended } ≡ leftBy c first second
+left-by c first second ended e = rw e refl
 
-    pub end-low : place + n ≤ unitLength s
-    end-low = within (c .inside) refl place-is n-is .0
+-- one turn
+pub turn-takes : (k : ℕ) (c : Cut) (completed inside : Overhead) (e : Expected) (b : Both) (ended : Bool) (o : Overhead) (later : Seen)
+    → ended ≡ cond (eqb k 0) (c .ends) (c .inside) → o ≡ cond (eqb k 0) completed inside → later ≡ takenIn ended o e (b .later .monitor)
+    → record { earlier = b .later; later = later } ≡ turned k c completed inside e b
+turn-takes k c completed inside e b ended o later h i j = rw (j, h, i) refl
 
-    pub watchable-part : Watchable (c .inside) (s .columns) (take (place + n - place) (drop place unit))
-    watchable-part =
-        let l = length-part unit place n (omega (arith, end-low, w .low)) in
-        record {
-          some = some-columns s (w .fit);
-          long = λ h. omega (arith, l, within (c .inside) refl place-is n-is .1 h, some-columns s (w .fit), w .fit .nine);
-        }
+-- what k turns make of b
+unfoldable pub turns : ℕ → Cut → Overhead → Overhead → Expected → Both → Both
+turns zero c completed inside e b = b
+turns (suc k) c completed inside e b = turned k c completed inside e (turns k c completed inside e b)
 
-    pub both-seen : (m : Monitor) (e : Expected) (first second : Seen) (ended : Ended)
-        → first ≡ watched (c .ends) (s .columns) done e m
-        → second ≡ watched (c .inside) (s .columns) (take (place + n - place) (drop place unit)) e (first .monitor)
-        → ended ≡ endedIn c first second
-        → record { monitor = second .monitor; held = c .left; ended = ended } ≡ bothSeen s c done (insidePart s c unit) m e
-    unfolding bothSeen
-    both-seen m e first second ended first-is second-is ended-is =
-        let second-as : second ≡ watched (c .inside) (s .columns) (insidePart s c unit) e (first .monitor) =
-        second-is ∙ rw (place-is, n-is) (watched-inside s c unit e (first .monitor) (c .inside)) in
-        rw (ended-is, second-as, first-is) refl
+pub turns-on : (k : ℕ) (c : Cut) (completed inside : Overhead) (e : Expected) (b₀ b r : Both)
+    → b ≡ turns k c completed inside e b₀ → r ≡ turned k c completed inside e b → r ≡ turns (k + 1) c completed inside e b₀
+unfolding turns
+turns-on k c completed inside e b₀ b r h j = rw add-one (rw h at j)
+
+-- two turns take in both
+pub turns-taken : (k : ℕ) (c : Cut) (completed inside : Overhead) (e : Expected) (m : Monitor) (none : Seen) (b : Both) (r : Left)
+    → none ≡ notSeen m → 2 ≤ k → k ≤ 2 → b ≡ turns k c completed inside e (record { earlier = none; later = none }) → r ≡ leftBy c (b .earlier) (b .later)
+    → r ≡ takenBoth c completed inside m e
+unfolding turns
+turns-taken k c completed inside e m none b r n h i j l =
+    let two : k ≡ 2 = omega arith in
+    l ∙ rw (j, two, n) refl
+
+pub both-watched : (s : Shape) (c : Cut) (done inside : List ℕ) (m : Monitor) (e : Expected) (o p : Overhead) (r : Left)
+    → o ≡ seenWhere (c .ends) (s .columns) done → p ≡ seenWhere (c .inside) (s .columns) inside → r ≡ takenBoth c o p m e
+    → r ≡ bothSeen s c done inside m e
+unfolding bothSeen
+both-watched s c done inside m e o p r h i j =
+    j ∙ rw (h, i, taken-watched (c .ends) (s .columns) done e m, taken-watched (c .inside) (s .columns) inside e (watched (c .ends) (s .columns) done e m .monitor)) refl
 
 -- ---- where it goes on
 
@@ -150,10 +176,13 @@ module _ (s : Shape) (t : Taken) (offset count : ℕ) (unit held done : List ℕ
             let inside-is = ap (λ (x : Cut). x .inside) (cuts .cut-is) in
             let next-is = ap (λ (x : Cut). x .next) (cuts .cut-is) in
             record {
-              fit = fit-is;
+              part =
+                  record {
+                    fit = fit-is;
+                    within = λ h. omega (arith, next-is, inside-fits s (b .kept) (b .from) line-is (sym inside-is ∙ h), q .sizes .unit-is);
+                    low = q .sizes .unit-is;
+                  };
               done-is = l ∙ q .sizes .done-is;
-              within = λ h. omega (arith, next-is, inside-fits s (b .kept) (b .from) line-is (sym inside-is ∙ h), q .sizes .unit-is);
-              low = q .sizes .unit-is;
             }
 
         pub unit-leaves : (m before : Monitor) (e : Expected) (left : Left)

@@ -48,9 +48,13 @@ cutIn s t offset count = cutOf s (beginIn s t offset count .kept) (beginIn s t o
 
 -- ---- what ended
 
+-- where no container ended
+abbrev pub notSeen : Monitor → Seen
+notSeen m = record { monitor = m; violations = 0; returned = 0 }
+
 -- one container, watched where it ended
 unfoldable pub watched : Bool → ℕ → List ℕ → Expected → Monitor → Seen
-watched ended columns container e m = cond ended (seenOf m (seenIn columns container) e) (record { monitor = m; violations = 0; returned = 0 })
+watched ended columns container e m = cond ended (seenOf m (seenIn columns container) e) (notSeen m)
 
 -- "up to two containers end in a unit": where each is, and what is told of it
 unfoldable pub endedIn : Cut → Seen → Seen → Ended
@@ -89,12 +93,16 @@ silence =
           };
     }
 
+-- what a unit cut so leaves, by what is seen of both
+abbrev pub leftBy : Cut → Seen → Seen → Left
+leftBy c first second = record { monitor = second .monitor; held = c .left; ended = endedIn c first second }
+
 -- what is seen, of the container completed in the done buffer and then of the one inside the unit
 unfoldable pub bothSeen : Shape → Cut → List ℕ → List ℕ → Monitor → Expected → Left
 bothSeen s c completed inside m e =
     let first = watched (c .ends) (s .columns) completed e m in
     let second = watched (c .inside) (s .columns) inside e (first .monitor) in
-    record { monitor = second .monitor; held = c .left; ended = endedIn c first second }
+    leftBy c first second
 
 -- a unit that ends normal at the offset, its word taken as t, with `count` bytes held before it
 unfoldable pub received : Shape → Taken → ℕ → ℕ → Monitor → Expected → List ℕ → List ℕ → List ℕ → Leaving
@@ -112,15 +120,14 @@ abbrev pub Leaves : Shape → Taken → ℕ → ℕ → Monitor → Expected →
 Leaves s t offset count m e unit held done r held′ done′ =
     _≡_ {A = Leaving} (record { left = r; held = held′; done = done′ }) (received s t offset count m e unit held done)
 
-pub record Watchable (ended : Bool) (columns : ℕ) (container : List ℕ) : Type 0 where
-  pub some : 0 < columns
-  pub long : ended ≡ true → 3 * columns < length container
-
-pub record Seeable (s : Shape) (c : Cut) (unit done : List ℕ) : Type 0 where
+pub record Inside (s : Shape) (c : Cut) (unit : List ℕ) : Type 0 where
   pub fit : Fit s
-  pub done-is : length done ≡ s .size
   pub within : c .inside ≡ true → c .next + s .size ≤ length unit
   pub low : length unit ≡ unitLength s
+
+pub record Seeable (s : Shape) (c : Cut) (unit done : List ℕ) : Type 0 where
+  pub part : Inside s c unit
+  pub done-is : length done ≡ s .size
 
 pub record Receivable (s : Shape) (t : Taken) (offset count : ℕ) (unit held done : List ℕ) : Type 0 where
   pub low : offset ≤ s .top

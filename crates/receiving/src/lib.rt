@@ -1,20 +1,24 @@
 // What a unit that ends normal leaves: the containers that ended in it, watched one after the other, and the bytes that are held.
 // The definitions stand in specs/Receiving.antt. The sink rests on this crate.
 ghost use mathlib.Core.Path.{_≡_};
-ghost use mathlib.Core.Bool.{cond};
-ghost use Prim.Native.Nat.{_+_, _≤_};
+ghost use mathlib.Core.Bool.{true, cond};
+ghost use Prim.Native.Nat.{_+_, _*_, _<_, _≤_};
+ghost use lib.ListN.{length};
 ghost use Rattle.shape.specs.Shape.{Fit};
 ghost use Rattle.cut.specs.Cut.{insidePart};
-ghost use Rattle.receiving.specs.Receiving.{Receivable, Watchable, Seeable, forgot, fromIn, beginIn, watched, endedIn, silence, bothSeen, Leaves};
+ghost use Rattle.receiving.specs.Turns.{nothingSeen, seenWhere, takenIn, turned, takenBoth};
+ghost use Rattle.receiving.specs.Receiving.{Receivable, Inside, Seeable, forgot, fromIn, beginIn, notSeen, endedIn, leftBy, silence, bothSeen, Leaves};
 use cut::Cut;
 use monitor::Expected;
 use monitor::Monitor;
+use monitor::Overhead;
 use monitor::Seen;
 use reading::Taken;
 use shape::Adjustment;
 use shape::Shape;
 
 // What is told of a container: its violations, which are its REI, and those that the far end returned.
+#[repr(C)]
 pub struct Told {
     pub violations: u8,
     pub returned: u8,
@@ -22,6 +26,7 @@ pub struct Told {
 
 // What ended in a unit: how many containers; whether one was completed in the done buffer; whether one is a part of the unit itself, and from which place.
 // `first` is told of the one completed, `second` of the one inside; it is 0 where there is none.
+#[repr(C)]
 pub struct Ended {
     pub number: u8,
     pub completed: bool,
@@ -36,6 +41,12 @@ pub struct Left {
     pub monitor: Monitor,
     pub held: usize,
     pub ended: Ended,
+}
+
+// What was seen of two containers, one after the other.
+struct Both {
+    earlier: Seen,
+    later: Seen,
 }
 
 // Where a unit goes on: the held bytes that it goes on with, and the place in it where its run of container bytes begins.
@@ -99,15 +110,47 @@ fn goes_on(shape: Shape, t: Taken, offset: u16, count: usize) -> Begin
     }
 }
 
-// One container, watched where it ended.
-fn watch(ended: bool, columns: usize, container: &[u8], m: Monitor, e: Expected) -> Seen
-    requires { ⌜ Watchable ended columns (now container) ⌝ }
-    ensures { λ r. ⌜ r ≡ watched ended columns (now (container .entry)) e m ⌝ }
+// What is seen where no container ended: it is never taken in.
+fn see_none() -> Overhead
+    ensures { λ r. ⌜ r ≡ nothingSeen ⌝ }
 {
-    if ended {
-        let o = monitor::see(columns, container);
-        return monitor::step(m, o, e);
+    Overhead {
+        j1: 0,
+        b3: 0,
+        c2: 0,
+        g1: 0,
+        parity: 0,
     }
+}
+
+// The container completed in the done buffer, seen where one was.
+fn see_completed(shape: Shape, c: Cut, done: &[u8]) -> Overhead
+    requires { ⌜ (0 < shape .columns) × (3 * shape .columns < length (now done)) ⌝ }
+    ensures { λ r. ⌜ r ≡ seenWhere (c .ends) (shape .columns) (now (done .entry)) ⌝ }
+{
+    if c.ends {
+        return monitor::see(shape.columns, done);
+    }
+    see_none()
+}
+
+// The container inside the unit, seen where there is one: that part of the unit is passed on.
+fn see_inside(shape: Shape, c: Cut, unit: &[u8]) -> Overhead
+    requires { ⌜ Inside shape c (now unit) ⌝ }
+    ensures { λ r. ⌜ r ≡ seenWhere (c .inside) (shape .columns) (insidePart shape c (now (unit .entry))) ⌝ }
+{
+    if c.inside {
+        let place = c.next;
+        let end = place + shape.size;
+        return monitor::see(shape.columns, &unit[place..end]);
+    }
+    see_none()
+}
+
+// Where no container ended.
+fn unseen(m: Monitor) -> Seen
+    ensures { λ r. ⌜ r ≡ notSeen m ⌝ }
+{
     Seen {
         monitor: m,
         violations: 0,
@@ -172,17 +215,10 @@ fn ended_in(c: Cut, earlier: Seen, later: Seen) -> Ended
     }
 }
 
-// What is seen in a unit cut so: in the done buffer, and then in the unit itself.
-fn watch_both(shape: Shape, c: Cut, unit: &[u8], done: &[u8], m: Monitor, e: Expected) -> Left
-    requires { ⌜ Seeable shape c (now unit) (now done) ⌝ }
-    ensures { λ r. ⌜ r ≡ bothSeen shape c (now (done .entry)) (insidePart shape c (now (unit .entry))) m e ⌝ }
+// What a unit cut so leaves, by what was seen of both.
+fn leave(c: Cut, earlier: Seen, later: Seen) -> Left
+    ensures { λ r. ⌜ r ≡ leftBy c earlier later ⌝ }
 {
-    let inside = c.inside;
-    let earlier = watch(c.ends, shape.columns, done, m, e);
-    let between = earlier.monitor;
-    let place = pick(inside, c.next, 0);
-    let end = place + pick(inside, shape.size, 0);
-    let later = watch(inside, shape.columns, &unit[place..end], between, e);
     let after = later.monitor;
     let ended = ended_in(c, earlier, later);
     Left {
@@ -190,6 +226,71 @@ fn watch_both(shape: Shape, c: Cut, unit: &[u8], done: &[u8], m: Monitor, e: Exp
         held: c.left,
         ended,
     }
+}
+
+// One test or the other.
+fn pick_ended(test: bool, yes: bool, no: bool) -> bool
+    ensures { λ r. ⌜ r ≡ cond test yes no ⌝ }
+{
+    if test { yes } else { no }
+}
+
+// What was seen of one or of the other.
+fn pick_seen(test: bool, yes: Overhead, no: Overhead) -> Overhead
+    ensures { λ r. ⌜ r ≡ cond test yes no ⌝ }
+{
+    if test { yes } else { no }
+}
+
+// One container taken in, where it ended.
+fn take(ended: bool, m: Monitor, o: Overhead, e: Expected) -> Seen
+    ensures { λ r. ⌜ r ≡ takenIn ended o e m ⌝ }
+{
+    if ended {
+        return monitor::step(m, o, e);
+    }
+    unseen(m)
+}
+
+// Turn 0 takes in the one completed, turn 1 the one inside. What was the later one is then the earlier.
+fn turn(k: usize, c: Cut, completed: Overhead, inside: Overhead, b: Both, e: Expected) -> Both
+    ensures { λ r. ⌜ r ≡ turned k c completed inside e b ⌝ }
+{
+    let ended = pick_ended(k == 0, c.ends, c.inside);
+    let o = pick_seen(k == 0, completed, inside);
+    let earlier = b.later;
+    let between = earlier.monitor;
+    let later = take(ended, between, o, e);
+    Both { earlier, later }
+}
+
+// Both taken in, one after the other. The loop leaves one call of the monitor's step: it is then a part of the sink, and the monitor is not copied to and from a call.
+fn take_both(c: Cut, completed: Overhead, inside: Overhead, m: Monitor, e: Expected) -> Left
+    ensures { λ r. ⌜ r ≡ takenBoth c completed inside m e ⌝ }
+{
+    let none = unseen(m);
+    let mut b = Both {
+        earlier: none,
+        later: none,
+    };
+    let mut k = 0usize;
+    while k < 2 {
+        b = turn(k, c, completed, inside, b, e);
+        k = k + 1;
+    }
+    let earlier = b.earlier;
+    let later = b.later;
+    leave(c, earlier, later)
+}
+
+// What is seen in a unit cut so: in the done buffer, and then in the unit itself.
+fn watch_both(shape: Shape, c: Cut, unit: &[u8], done: &[u8], m: Monitor, e: Expected) -> Left
+    requires { ⌜ Seeable shape c (now unit) (now done) ⌝ }
+    ensures { λ r. ⌜ r ≡ bothSeen shape c (now (done .entry)) (insidePart shape c (now (unit .entry))) m e ⌝ }
+{
+    let completed = see_completed(shape, c, done);
+    let inside = see_inside(shape, c, unit);
+    take_both(c, completed, inside, m, e)
 }
 
 // A unit that ends normal at the offset, its word taken as t, with `count` bytes held before it.
