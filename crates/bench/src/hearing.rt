@@ -17,16 +17,6 @@ pub struct Expected {
     pub flags: Flags,
 }
 
-// The flags of a number as in the catalogue: 1 monitored, 2 RDI reported, 4 SSF reported, 8 AIS reported.
-pub fn flags(n: u32) -> Flags {
-    Flags {
-        monitored: n % 2 == 1,
-        rdi: n / 2 % 2 == 1,
-        ssf: n / 4 % 2 == 1,
-        ais: n / 8 % 2 == 1,
-    }
-}
-
 fn say_state(s: reading::State) {
     match s {
         reading::State::Normal(offset) => {

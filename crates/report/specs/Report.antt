@@ -1,5 +1,6 @@
 -- What is told at a unit's end, of 01, "Defects, actions, causes": "actions and causes are taken at the unit's end", after its last container.
-use Prim.Native.Nat.{ℕ}
+use Prim.Native.Nat.{ℕ, _/_, _%_}
+use lib.Dec.{eqb}
 use mathlib.Core.Bool.{Bool, cond, _&&_, _||_, not}
 use mathlib.Core.List.{List}
 use Rattle.counts.specs.Counts.{more}
@@ -13,6 +14,10 @@ use Rattle.report.specs.declared.Flags.{Flags}
 use Rattle.report.specs.declared.Defects.{Defects}
 use Rattle.report.specs.declared.Actions.{Actions}
 use Rattle.report.specs.declared.Causes.{Causes}
+
+-- "The sink is given its four flags as yes or no": of a record's "flags (1 monitored, 2 RDI reported, 4 SSF reported, 8 AIS reported)"
+unfoldable pub flagsOf : ℕ → Flags
+flagsOf byte = record { monitored = eqb (byte % 2) 1; rdi = eqb (byte / 2 % 2) 1; ssf = eqb (byte / 4 % 2) 1; ais = eqb (byte / 8 % 2) 1 }
 
 -- the four defects, as the monitor has them
 unfoldable pub defectsOf : Monitor → Defects

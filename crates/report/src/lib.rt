@@ -1,9 +1,10 @@
 // What is told at a unit's end: actions and causes, whether it ended settled, and the unsettled total. The definitions stand in specs/Report.antt;
 // proofs/Together.antt says which causes stand together. The sink calls these once a unit, after its last container.
 ghost use mathlib.Core.Path.{_≡_};
-ghost use Rattle.report.specs.Report.{defectsOf, tsfOf, actionsOf, causesAt, causesOf, noneStands, labelExpected, traceExpected, settledOf, totalOf};
+ghost use Rattle.report.specs.Report.{flagsOf, defectsOf, tsfOf, actionsOf, causesAt, causesOf, noneStands, labelExpected, traceExpected, settledOf, totalOf};
 
 // A circuit's flags: monitored, and which of RDI, SSF and AIS are reported.
+#[repr(C)]
 pub struct Flags {
     pub monitored: bool,
     pub rdi: bool,
@@ -12,6 +13,7 @@ pub struct Flags {
 }
 
 // dUNEQ, dTIM, dPLM, dRDI.
+#[repr(C)]
 pub struct Defects {
     pub uneq: bool,
     pub tim: bool,
@@ -20,6 +22,7 @@ pub struct Defects {
 }
 
 // Consequent actions, and the SSF that they follow from. REI is the violations of each container.
+#[repr(C)]
 pub struct Actions {
     pub ssf: bool,
     pub tsf: bool,
@@ -28,6 +31,7 @@ pub struct Actions {
 }
 
 // cAIS, cLOP, cSSF, cUNEQ, cTIM, cRDI, cPLM.
+#[repr(C)]
 pub struct Causes {
     pub ais: bool,
     pub lop: bool,
@@ -36,6 +40,18 @@ pub struct Causes {
     pub tim: bool,
     pub rdi: bool,
     pub plm: bool,
+}
+
+// The sink's four flags, of the flags byte of a circuit in the catalogue. What a catalogue refuses, a byte above 15, has no more to say here.
+pub fn flags_of(byte: u8) -> Flags
+    ensures { λ r. ⌜ r ≡ flagsOf byte ⌝ }
+{
+    Flags {
+        monitored: byte % 2 == 1,
+        rdi: byte / 2 % 2 == 1,
+        ssf: byte / 4 % 2 == 1,
+        ais: byte / 8 % 2 == 1,
+    }
 }
 
 // The defects that the monitor has.
