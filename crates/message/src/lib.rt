@@ -5,6 +5,7 @@ ghost use Rattle.trace.specs.Check.{alike};
 ghost use Rattle.message.specs.Trace.{gatheredOf, endsGood, spoils, withGood, withoutGood, traceOf, blankTrace};
 
 // The message that is being gathered: the place of its next byte, 0 outside any, its start byte, and its characters as far as they have come.
+#[repr(C)]
 pub struct Gathered {
     pub place: u8,
     pub start: u8,
@@ -12,6 +13,7 @@ pub struct Gathered {
 }
 
 // The message being gathered, the last good one with its run, the accepted one if there is one, the count of containers without a good message, and dTIM.
+#[repr(C)]
 pub struct Trace {
     pub gathered: Gathered,
     pub last: [u8; 15],

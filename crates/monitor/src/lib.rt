@@ -22,6 +22,7 @@ pub struct Expected {
 }
 
 // All that is kept from container to container.
+#[repr(C)]
 pub struct Monitor {
     pub parity: overhead::Parity,
     pub label: overhead::Label,

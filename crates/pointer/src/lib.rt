@@ -9,6 +9,7 @@ use reading::State;
 use reading::Taken;
 
 // How many of the last words, in a row, were taken as alarm words (as far as 3), as new data and as invalid (as far as 8).
+#[repr(C)]
 pub struct Rows {
     pub alarms: u8,
     pub news: u8,

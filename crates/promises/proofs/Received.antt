@@ -19,6 +19,7 @@ use Rattle.message.specs.declared.Trace.{Trace}
 use Rattle.monitor.specs.declared.Overhead.{Overhead}
 use Rattle.monitor.specs.declared.Monitor.{Monitor}
 use Rattle.monitor.specs.declared.Seen.{Seen}
+use Rattle.report.specs.declared.Flags.{Flags}
 use Rattle.report.specs.declared.Defects.{Defects}
 use Rattle.report.specs.declared.Actions.{Actions}
 use Rattle.report.specs.declared.Causes.{Causes}
@@ -26,6 +27,8 @@ use Rattle.receiving.specs.Receiving.{Leaving}
 use Rattle.receiving.specs.declared.Left.{Left}
 use Rattle.sink.specs.Sink.{Outcome}
 use Rattle.sink.specs.declared.State.{State}
+use Rattle.probe_sink.specs.Probe.{Probed}
+use Rattle.probe_sink.specs.declared.Plain.{Plain}
 use Rattle.promises.proofs.Determined.{Determines}
 use Rattle.counts.proofs.one_more.Kinds as counts-one-more
 use Rattle.counts.proofs.one_more.Reads as counts-one-more-promise
@@ -77,6 +80,8 @@ use Rattle.monitor.proofs.in_range.Kinds as monitor-in-range
 use Rattle.monitor.proofs.in_range.Reads as monitor-in-range-promise
 use Rattle.monitor.proofs.step.Kinds as monitor-step
 use Rattle.monitor.proofs.step.Reads as monitor-step-promise
+use Rattle.report.proofs.flags_of.Kinds as report-flags-of
+use Rattle.report.proofs.flags_of.Reads as report-flags-of-promise
 use Rattle.report.proofs.defects_of.Kinds as report-defects-of
 use Rattle.report.proofs.defects_of.Reads as report-defects-of-promise
 use Rattle.report.proofs.actions_of.Kinds as report-actions-of
@@ -95,6 +100,10 @@ use Rattle.sink.proofs.fresh.Kinds as sink-fresh
 use Rattle.sink.proofs.fresh.Reads as sink-fresh-promise
 use Rattle.sink.proofs.sink.Kinds as sink
 use Rattle.sink.proofs.sink.Reads as sink-promise
+use Rattle.probe_sink.proofs.probe_fresh_sink.Kinds as probe-fresh-sink
+use Rattle.probe_sink.proofs.probe_fresh_sink.Reads as probe-fresh-sink-promise
+use Rattle.probe_sink.proofs.probe_sink.Kinds as probe-sink
+use Rattle.probe_sink.proofs.probe_sink.Reads as probe-sink-promise
 
 -- ---- counts
 
@@ -203,6 +212,9 @@ monitor-step-determined κs a x y s t p q = p ∙ sym q
 
 -- ---- report
 
+pub report-flags-of-determined : Determines {O = Flags} 0 report-flags-of.ps report-flags-of.r report-flags-of-promise.Post (λ κs r e. r)
+report-flags-of-determined κs a x y s t p q = p ∙ sym q
+
 pub report-defects-of-determined : Determines {O = Defects} 0 report-defects-of.ps report-defects-of.r report-defects-of-promise.Post (λ κs r e. r)
 report-defects-of-determined κs a x y s t p q = p ∙ sym q
 
@@ -233,3 +245,11 @@ sink-fresh-determined κs a x y s t p q = p ∙ sym q
 
 pub sink-determined : Determines {O = Outcome} 4 sink.ps sink.r sink-promise.Post (λ κs r e. record { received = r; held = now (e .1 .1 .1 .1 .1 .0); done = now (e .1 .1 .1 .1 .1 .1 .0) })
 sink-determined κs a x y s t p q = p ∙ sym q
+
+-- ---- probe_sink
+
+pub probe-fresh-sink-determined : Determines {O = Plain} 0 probe-fresh-sink.ps probe-fresh-sink.r probe-fresh-sink-promise.Post (λ κs r e. r)
+probe-fresh-sink-determined κs a x y s t p q = p ∙ sym q
+
+pub probe-sink-determined : Determines {O = Probed} 4 probe-sink.ps probe-sink.r probe-sink-promise.Post (λ κs r e. record { shown = r; held = now (e .1 .1 .1 .1 .1 .0); done = now (e .1 .1 .1 .1 .1 .1 .0) })
+probe-sink-determined κs a x y s t p q = p ∙ sym q

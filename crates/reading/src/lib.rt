@@ -25,6 +25,7 @@ pub enum Taken {
 }
 
 // How many of the last words were alike, as far as 3, and their value; both 0 where there is no run.
+#[repr(C)]
 pub struct Run {
     pub count: u8,
     pub value: u16,

@@ -1,0 +1,58 @@
+-- What the probe of the sink has to show, of what the calls have shown. Assumes nothing.
+use mathlib.Core.Path.{_≡_, refl, ap, _∙_}
+use mathlib.Core.Bool.{Bool}
+use mathlib.Core.List.{List}
+use Prim.Native.Nat.{ℕ}
+use Rattle.refusals.specs.Refusals.{answerNumber}
+use Rattle.shape.specs.Shape.{au4}
+use Rattle.reading.specs.declared.State as reading
+use Rattle.pointer.specs.Machine.{offsetOf}
+use Rattle.monitor.specs.declared.Expected.{Expected}
+use Rattle.report.specs.declared.Flags.{Flags}
+use Rattle.sink.specs.Sink.{freshState, sink, Receives}
+use Rattle.sink.specs.declared.State.{State}
+use Rattle.sink.specs.declared.Received.{Received}
+use Rattle.probe_sink.specs.Probe.{pointerState, kindOf, stateOf, plainOf, shownOf, probedOf, Shows}
+use Rattle.probe_sink.specs.declared.Plain.{Plain}
+use Rattle.probe_sink.specs.declared.Shown.{Shown}
+
+pub state-is : (p : Plain) (x : reading.State) → x ≡ pointerState (p .kind) (p .offset)
+    → record { pointer = record { state = x; rows = p .rows; run = p .run; wait = p .wait }; held = p .held; monitor = p .monitor; total = p .total } ≡ stateOf p
+unfolding stateOf
+state-is p x e = rw e refl
+
+pub plain-is : (s : State) (k o : ℕ) → k ≡ kindOf (s .pointer .state) → o ≡ offsetOf (s .pointer .state)
+    → record {
+      kind = k;
+      offset = o;
+      rows = s .pointer .rows;
+      run = s .pointer .run;
+      wait = s .pointer .wait;
+      held = s .held;
+      monitor = s .monitor;
+      total = s .total;
+    }
+    ≡ plainOf s
+unfolding plainOf
+plain-is s k o e f = rw (e, f) refl
+
+pub shown-is : (x : Received) (n : ℕ) (p : Plain) → n ≡ answerNumber (x .answer) → p ≡ plainOf (x .state)
+    → record {
+      number = n;
+      state = p;
+      ended = x .ended;
+      actions = x .actions;
+      defects = x .defects;
+      causes = x .causes;
+      settled = x .settled;
+    }
+    ≡ shownOf x
+unfolding shownOf
+shown-is x n p e f = rw (e, f) refl
+
+pub fresh-is : (s : State) (p : Plain) → s ≡ freshState → p ≡ plainOf s → p ≡ plainOf freshState
+fresh-is s p e f = f ∙ ap plainOf e
+
+pub shows : (p : Plain) (e : Expected) (flags : Flags) (unit held done held′ done′ : List ℕ) (s : State) (x : Received) (q : Shown)
+    → s ≡ stateOf p → Receives au4 s e flags unit held done x held′ done′ → q ≡ shownOf x → Shows p e flags unit held done q held′ done′
+shows p e flags unit held done held′ done′ s x q k h f = rw (f, ← k) (ap probedOf h)

@@ -1,0 +1,73 @@
+-- A sink's state and answer with no enum in them, so that tests and benchmarks in another language can give any state and read all that a call leaves.
+use mathlib.Core.Path.{_≡_}
+use Prim.Native.Nat.{ℕ}
+use mathlib.Core.Bool.{cond}
+use mathlib.Core.List.{List}
+use lib.Dec.{eqb}
+use Rattle.refusals.specs.Refusals.{answerNumber}
+use Rattle.shape.specs.Shape.{au4}
+use Rattle.reading.specs.declared.State as reading
+use Rattle.reading.specs.declared.State.the-variants.{Normal, Alarm, Lost}
+use Rattle.pointer.specs.Machine.{isNormal, isAlarm, offsetOf}
+use Rattle.monitor.specs.declared.Expected.{Expected}
+use Rattle.report.specs.declared.Flags.{Flags}
+use Rattle.sink.specs.declared.State.{State}
+use Rattle.sink.specs.declared.Received.{Received}
+use Rattle.sink.specs.Sink.{Outcome, sink}
+use Rattle.probe_sink.specs.declared.Plain.{Plain}
+use Rattle.probe_sink.specs.declared.Shown.{Shown}
+
+-- 0 lost, 1 alarm, any other normal at the offset
+unfoldable pub pointerState : ℕ → ℕ → reading.State
+pointerState kind offset = cond (eqb kind 0) Lost (cond (eqb kind 1) Alarm (Normal offset))
+
+unfoldable pub kindOf : reading.State → ℕ
+kindOf (Normal _) = 2
+kindOf Alarm = 1
+kindOf Lost = 0
+
+unfoldable pub stateOf : Plain → State
+stateOf p =
+    record {
+      pointer = record { state = pointerState (p .kind) (p .offset); rows = p .rows; run = p .run; wait = p .wait };
+      held = p .held;
+      monitor = p .monitor;
+      total = p .total;
+    }
+
+unfoldable pub plainOf : State → Plain
+plainOf s =
+    record {
+      kind = kindOf (s .pointer .state);
+      offset = offsetOf (s .pointer .state);
+      rows = s .pointer .rows;
+      run = s .pointer .run;
+      wait = s .pointer .wait;
+      held = s .held;
+      monitor = s .monitor;
+      total = s .total;
+    }
+
+unfoldable pub shownOf : Received → Shown
+shownOf x =
+    record {
+      number = answerNumber (x .answer);
+      state = plainOf (x .state);
+      ended = x .ended;
+      actions = x .actions;
+      defects = x .defects;
+      causes = x .causes;
+      settled = x .settled;
+    }
+
+-- all that a probe leaves: what it shows, and the bytes of both buffers
+pub record Probed : Type 0 where
+  pub shown : Shown
+  pub held : List ℕ
+  pub done : List ℕ
+
+abbrev pub probedOf : Outcome → Probed
+probedOf o = record { shown = shownOf (o .received); held = o .held; done = o .done }
+
+abbrev pub Shows : Plain → Expected → Flags → List ℕ → List ℕ → List ℕ → Shown → List ℕ → List ℕ → Type 0
+Shows p e flags unit held done r held′ done′ = _≡_ {A = Probed} (record { shown = r; held = held′; done = done′ }) (probedOf (sink au4 (stateOf p) e flags unit held done))

@@ -1,0 +1,147 @@
+// For tests and benchmarks only: the sink, as a function that Rust and C can link. No enum can be handed across, so the pointer's state and the answer become numbers
+// by the definitions of specs/Probe.antt; all else is handed across as it is, and any state can be given. Nothing of the card rests on this crate.
+ghost use mathlib.Core.Path.{_≡_};
+ghost use Rattle.sink.specs.Sink as sink;
+ghost use Rattle.probe_sink.specs.Probe.{pointerState, kindOf, stateOf, plainOf, shownOf, Shows};
+use monitor::Expected;
+use monitor::Monitor;
+use pointer::Pointer;
+use pointer::Rows;
+use reading::Run;
+use receiving::Ended;
+use report::Actions;
+use report::Causes;
+use report::Defects;
+use report::Flags;
+use sink::Received;
+
+// A sink's state: the kind is 0 for lost, 1 for alarm, 2 for normal; the offset counts where it is normal.
+#[repr(C)]
+pub struct Plain {
+    pub kind: u8,
+    pub offset: u16,
+    pub rows: Rows,
+    pub run: Run,
+    pub wait: u8,
+    pub held: usize,
+    pub monitor: Monitor,
+    pub total: u16,
+}
+
+// What a call answers: the refusal's number, 0 for none, and the rest as the sink has it.
+#[repr(C)]
+pub struct Shown {
+    pub number: u8,
+    pub state: Plain,
+    pub ended: Ended,
+    pub actions: Actions,
+    pub defects: Defects,
+    pub causes: Causes,
+    pub settled: bool,
+}
+
+fn pointer_state(kind: u8, offset: u16) -> reading::State
+    ensures { λ r. ⌜ r ≡ pointerState kind offset ⌝ }
+{
+    if kind == 0 {
+        return reading::State::Lost;
+    }
+    if kind == 1 {
+        return reading::State::Alarm;
+    }
+    reading::State::Normal(offset)
+}
+
+fn kind(state: reading::State) -> u8
+    ensures { λ r. ⌜ r ≡ kindOf state ⌝ }
+{
+    match state {
+        reading::State::Normal(_) => 2,
+        reading::State::Alarm => 1,
+        reading::State::Lost => 0,
+    }
+}
+
+fn state_of(p: Plain) -> sink::State
+    ensures { λ r. ⌜ r ≡ stateOf p ⌝ }
+{
+    let rows = p.rows;
+    let run = p.run;
+    let monitor = p.monitor;
+    let pointer = Pointer {
+        state: pointer_state(p.kind, p.offset),
+        rows,
+        run,
+        wait: p.wait,
+    };
+    sink::State {
+        pointer,
+        held: p.held,
+        monitor,
+        total: p.total,
+    }
+}
+
+fn plain_of(s: sink::State) -> Plain
+    ensures { λ r. ⌜ r ≡ plainOf s ⌝ }
+{
+    let p = s.pointer;
+    let state = p.state;
+    let rows = p.rows;
+    let run = p.run;
+    let monitor = s.monitor;
+    Plain {
+        kind: kind(state),
+        offset: pointer::offset(state),
+        rows,
+        run,
+        wait: p.wait,
+        held: s.held,
+        monitor,
+        total: s.total,
+    }
+}
+
+fn show(x: Received) -> Shown
+    ensures { λ r. ⌜ r ≡ shownOf x ⌝ }
+{
+    let a = x.answer;
+    let s = x.state;
+    let ended = x.ended;
+    let actions = x.actions;
+    let defects = x.defects;
+    let causes = x.causes;
+    Shown {
+        number: refusals::number(a),
+        state: plain_of(s),
+        ended,
+        actions,
+        defects,
+        causes,
+        settled: x.settled,
+    }
+}
+
+// The state of a sink that has seen nothing.
+#[no_mangle]
+pub extern "C" fn probe_fresh_sink() -> Plain
+    ensures { λ r. ⌜ r ≡ plainOf sink.freshState ⌝ }
+{
+    plain_of(sink::fresh())
+}
+
+// The sink.
+#[no_mangle]
+pub extern "C" fn probe_sink(
+    s: Plain,
+    label: u8,
+    characters: &[u8; 15],
+    flags: Flags,
+    unit: &[u8],
+    held: &mut [u8],
+    done: &mut [u8],
+) -> Shown
+    ensures { λ r. ⌜ Shows s (record { label = label; trace = now (characters .entry) }) flags (now (unit .entry)) (now (held .entry)) (now (done .entry)) r (now (held .exit)) (now (done .exit)) ⌝ }
+{
+    show(sink::sink(state_of(s), label, characters, flags, unit, held, done))
+}
