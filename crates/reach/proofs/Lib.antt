@@ -1,5 +1,7 @@
 pub mod Refused
+pub mod Order
 pub mod Ranges
 pub mod Causes
 pub mod Pairs
 pub mod Handed
+pub mod Ignored

@@ -1,4 +1,5 @@
 pub mod Refused
+pub mod Order
 pub mod Shares
 pub mod Spaced
 pub mod Words
