@@ -1,0 +1,10 @@
+-- `container_source::fresh` meets its contract: it is the definition. Assumes nothing.
+use mathlib.Core.Path.{refl}
+use Rattle.container_source.proofs.fresh.Statement.{statement}
+use Rattle.container_source.proofs.fresh.Tie as tie
+
+returns : tie.Need-returns
+returns c = refl
+
+pub fresh-spec : {M : Type 1} → statement M
+fresh-spec = tie.close (tie.spec returns)
