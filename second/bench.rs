@@ -132,6 +132,11 @@ impl Counts {
         }
     }
 
+    /// The names that were not met.
+    pub fn unmet(&self) -> Vec<&'static str> {
+        NAMES.iter().copied().filter(|name| self.0[name] == 0).collect()
+    }
+
     /// One line `name count` for each.
     pub fn text(&self) -> String {
         let mut text = String::new();

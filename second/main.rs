@@ -2,6 +2,8 @@
 //! input, the answer on standard output.
 
 mod bench;
+#[cfg(test)]
+mod fast;
 mod second;
 
 use std::env;
