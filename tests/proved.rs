@@ -54,6 +54,49 @@ pub mod c {
         ) -> u64;
         /// refusal number
         pub fn probe_payload(container: *const u8, container_length: usize, payload: *mut u8, payload_length: usize, ais: bool) -> u8;
+        pub fn probe_fresh_sink() -> Plain;
+        pub fn probe_sink(
+            s: Plain,
+            label: u8,
+            trace: *const [u8; 15],
+            flags: Flags,
+            unit: *const u8,
+            unit_length: usize,
+            held: *mut u8,
+            held_length: usize,
+            done: *mut u8,
+            done_length: usize,
+        ) -> Shown;
+    }
+
+    macro_rules! plain {
+        ($($name:ident { $($field:ident: $kind:ty),* $(,)? })*) => {
+            $(
+                #[repr(C)]
+                #[derive(Clone, Copy, Debug, Default, PartialEq, Eq)]
+                pub struct $name { $(pub $field: $kind),* }
+            )*
+        };
+    }
+
+    // The sink's structs, field by field as the Rattle source has them; of `Plain`, the kind is 0 for lost, 1 for alarm, 2 for normal.
+    plain! {
+        Rows { alarms: u8, news: u8, invalids: u8 }
+        Run { count: u8, value: u16 }
+        Parity { known: bool, value: u8 }
+        Label { last: u8, run: u8, known: bool, accepted: u8, plm: bool }
+        Defect { with: u8, without: u8, stands: bool }
+        Gathered { place: u8, start: u8, chars: [u8; 15] }
+        Trace { gathered: Gathered, last: [u8; 15], run: u8, known: bool, accepted: [u8; 15], without: u8, tim: bool }
+        Monitor { parity: Parity, label: Label, uneq: Defect, rdi: Defect, trace: Trace }
+        Plain { kind: u8, offset: u16, rows: Rows, run: Run, wait: u8, held: usize, monitor: Monitor, total: u16 }
+        Told { violations: u8, returned: u8 }
+        Ended { number: u8, completed: bool, inside: bool, place: usize, first: Told, second: Told }
+        Actions { ssf: bool, tsf: bool, ais: bool, rdi: bool }
+        Defects { uneq: bool, tim: bool, plm: bool, rdi: bool }
+        Causes { ais: bool, lop: bool, ssf: bool, uneq: bool, tim: bool, rdi: bool, plm: bool }
+        Flags { monitored: bool, rdi: bool, ssf: bool, ais: bool }
+        Shown { number: u8, state: Plain, ended: Ended, actions: Actions, defects: Defects, causes: Causes, settled: bool }
     }
 }
 
@@ -191,4 +234,36 @@ pub fn payload_call(container: &[u8], ais: bool, payload: &mut [u8]) -> u8 {
     let r = unsafe { c::probe_payload(container.as_ptr(), container.len(), room.as_mut_ptr(), room.len(), ais) };
     payload.copy_from_slice(&room);
     r
+}
+
+/// A sink that has seen nothing.
+pub fn fresh_sink() -> c::Plain {
+    unsafe { c::probe_fresh_sink() }
+}
+
+/// The sink's whole answer. The buffers are lent as they are: where valgrind is to see their ends, they are boxes of exactly their length.
+pub fn sink(s: c::Plain, label: u8, trace: &[u8; 15], flags: c::Flags, unit: &[u8], held: &mut [u8], done: &mut [u8]) -> c::Shown {
+    unsafe { c::probe_sink(s, label, trace, flags, unit.as_ptr(), unit.len(), held.as_mut_ptr(), held.len(), done.as_mut_ptr(), done.len()) }
+}
+
+/// The same state, with 0 in the bytes between its fields. The compiled sink compares some fields together with those bytes, in a way that they cannot change;
+/// valgrind does not see that, and would report them.
+#[inline(never)]
+pub fn between_fields_0(s: &c::Plain) -> c::Plain {
+    let mut room = std::mem::MaybeUninit::<c::Plain>::zeroed();
+    let to = room.as_mut_ptr();
+    // every field is written, and any bytes are a `Plain` but for its bools
+    unsafe {
+        (*to).kind = s.kind;
+        (*to).offset = s.offset;
+        (*to).rows = s.rows;
+        (*to).run.count = s.run.count;
+        (*to).run.value = s.run.value;
+        (*to).wait = s.wait;
+        (*to).held = s.held;
+        (*to).monitor = s.monitor;
+        (*to).total = s.total;
+        std::hint::black_box(to);
+        room.assume_init()
+    }
 }

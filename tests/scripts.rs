@@ -1,18 +1,11 @@
-//! `scripts SEED UNITS`: a random script for the bench with about UNITS `sink`
-//! commands, the same for the same seed.
+//! Random scripts for the bench, the same for the same seed: what `script SEED UNITS` prints, and what the fault load plays.
 //!
 //! Each line goes through the second program's bench as it is written, so that
 //! the next can be chosen by where source and sink stand.
 
-#[path = "../second/bench.rs"]
-mod bench;
-mod random;
-#[path = "../second/second.rs"]
-mod second;
-
-use bench::{hex, Bench};
-use random::Random;
-use second::{Asked, Pointer};
+use crate::bench::{hex, Bench};
+use crate::random::Random;
+use crate::second::{self, Asked, Pointer};
 
 const NORMAL: [u16; 5] = [0b0110, 0b1110, 0b0010, 0b0100, 0b0111];
 const ENABLED: [u16; 5] = [0b1001, 0b0001, 0b1101, 0b1011, 0b1000];
@@ -1277,7 +1270,8 @@ fn shuffled(r: &mut Random, list: &[fn(&mut Script)]) -> Vec<fn(&mut Script)> {
     deck
 }
 
-fn script(seed: u64, units: usize) -> String {
+/// A script with about this many `sink` commands.
+pub fn script(seed: u64, units: usize) -> String {
     let mut r = Random(seed);
     r.next();
     let mut s = Script {
@@ -1330,21 +1324,4 @@ fn script(seed: u64, units: usize) -> String {
         s.text.pop();
     }
     s.text
-}
-
-fn main() {
-    let numbers: Vec<u64> = std::env::args().skip(1).filter_map(|text| text.parse().ok()).collect();
-    match numbers[..] {
-        [seed, units] if std::env::args().count() == 3 => {
-            use std::io::Write;
-            let text = script(seed, units as usize);
-            if std::io::stdout().lock().write_all(text.as_bytes()).is_err() {
-                std::process::exit(1);
-            }
-        }
-        _ => {
-            eprintln!("usage: scripts SEED UNITS");
-            std::process::exit(2);
-        }
-    }
 }
