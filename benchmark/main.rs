@@ -1,15 +1,22 @@
-//! How fast the proved code is, as ratios within one run: each row is measured
-//! in turn with what it is compared to, many times over, and the best of each
-//! is kept. Buffers are in the cache. A ratio of 1.50 means half as slow again.
+//! How fast the proved code is, as ratios within one run on one machine: what is compared is measured in turn, many times over, and the best of each is kept.
+//! A ratio of 1.50 means half as slow again. Nothing here passes or fails.
 //!
-//! Links libcard.a, libprobe.a and libprobe_sources.a; built and run by benchmark/run.
+//! Beside the proved code stand (a) the core of the second program made fast (second/fast.rs: plain Rust that changes its state in place), its plain core, and
+//! (b) the limit: one parity and one copy of 2349 bytes by the best plain code, the fast core's parity and memcpy. 01 has a container that is completed copied more than once (held bytes, the
+//! continuation, what is held next): "the bytes of this run" is one parity and just these copies.
+//!
+//! Links libcard.a, libprobe.a, libprobe_sources.a and libprobe_sink.a; built and run by benchmark/run.
 
+#[path = "../second/fast.rs"]
+mod fast;
 #[path = "../tests/proved.rs"]
 mod proved;
 #[path = "../second/second.rs"]
 mod second;
+mod stack;
 
-use proved::c::{card_parity, card_trace_check, card_word_reading, probe_check, probe_container, probe_copy, probe_payload, probe_unit};
+use proved::c;
+use std::cell::{Cell, RefCell};
 use std::hint::black_box;
 use std::time::Instant;
 
@@ -17,6 +24,11 @@ const CONTAINER: usize = 2349;
 const PAYLOAD: usize = 2340;
 const UNIT: usize = 2358;
 const TURNS: usize = 600;
+/// A path sends this many units a second.
+const UNITS_A_SECOND: f64 = 8000.0;
+
+const LABEL: u8 = 0x12;
+const TRACE: [u8; 15] = *b"03E5           ";
 
 #[inline(never)]
 fn plain_parity(b: &[u8]) -> u8 {
@@ -35,7 +47,10 @@ fn memcpy(from: &[u8], to: &mut [u8]) {
     to.copy_from_slice(from);
 }
 
-/// Nanoseconds for one call, over `calls` calls.
+/// What is measured: its name, and the nanoseconds of one call.
+type Row<'a> = (&'a str, &'a mut dyn FnMut() -> f64);
+
+/// Nanoseconds for one of `calls` calls.
 fn once(calls: usize, f: &mut dyn FnMut()) -> f64 {
     let start = Instant::now();
     for _ in 0..calls {
@@ -45,155 +60,264 @@ fn once(calls: usize, f: &mut dyn FnMut()) -> f64 {
 }
 
 /// The best of each, taken in turn.
-fn best(calls: usize, rows: &mut [(&str, &mut dyn FnMut())]) -> Vec<f64> {
+fn best(turns: usize, rows: &mut [Row]) -> Vec<f64> {
     let mut least = vec![f64::INFINITY; rows.len()];
-    for _ in 0..TURNS {
+    for _ in 0..turns {
         for (k, (_, f)) in rows.iter_mut().enumerate() {
-            least[k] = least[k].min(once(calls, *f));
+            least[k] = least[k].min(f());
         }
     }
     least
 }
 
-/// A row for each thing that the first is compared to.
-fn show(what: &str, calls: usize, rows: &mut [(&str, &mut dyn FnMut())]) {
-    let times = best(calls, rows);
+/// The first, and a ratio for each thing that it is compared to.
+fn show(what: &str, turns: usize, rows: &mut [Row]) -> f64 {
+    let times = best(turns, rows);
     println!("{what}");
     println!("    {:<44} {:>11.1} ns", rows[0].0, times[0]);
     for k in 1..rows.len() {
         println!("    {:<44} {:>11.1} ns   ratio {:.2}", rows[k].0, times[k], times[0] / times[k]);
     }
+    times[0]
 }
 
-/// A good catalogue of n records whose traces agree in their first 11 characters.
-fn catalogue(n: usize) -> Vec<u8> {
-    let mut b = Vec::new();
-    for k in 0..n {
-        b.extend_from_slice(&[0x5A, 0x4D]);
-        b.extend_from_slice(&(k as u16 + 1).to_be_bytes());
-        b.push(0x12);
-        b.extend_from_slice(format!("CIRCUIT-VC-{k:04}").as_bytes());
-        b.push(0x0F);
-    }
-    b
+fn bytes(n: usize, by: usize) -> Vec<u8> {
+    (0..n).map(|i| (i * by + 7) as u8).collect()
 }
 
-fn main() {
-    let from: Vec<u8> = (0..CONTAINER).map(|i| (i * 31 + 7) as u8).collect();
+// ---- the parts
+
+fn parts() {
+    let from = bytes(CONTAINER, 31);
     // one buffer for all rows, so that none has a better place in memory than another
-    let to = std::cell::RefCell::new(vec![0u8; CONTAINER]);
-
+    let to = RefCell::new(vec![0u8; CONTAINER]);
+    let calls = 2000;
     show(
         "parity of 2349 bytes",
-        2000,
+        TURNS,
         &mut [
-            ("proved", &mut || {
-                black_box(unsafe { card_parity(black_box(from.as_ptr()), CONTAINER) });
-            }),
-            ("Rust, a plain loop", &mut || {
+            ("proved", &mut || once(calls, &mut || {
+                black_box(unsafe { c::card_parity(black_box(from.as_ptr()), CONTAINER) });
+            })),
+            ("Rust, a plain loop", &mut || once(calls, &mut || {
                 black_box(plain_parity(black_box(&from)));
-            }),
+            })),
+            ("(a) second program, fast", &mut || once(calls, &mut || {
+                black_box(fast::parity(black_box(&from)));
+            })),
         ],
     );
     show(
         "copy of 2349 bytes",
-        2000,
+        TURNS,
         &mut [
-            ("proved", &mut || {
-                black_box(unsafe { probe_copy(black_box(from.as_ptr()), CONTAINER, to.borrow_mut().as_mut_ptr(), CONTAINER) });
-            }),
-            ("memcpy", &mut || memcpy(black_box(&from), black_box(&mut to.borrow_mut()))),
-            ("Rust, a plain loop", &mut || plain_copy(black_box(&from), black_box(&mut to.borrow_mut()))),
+            ("proved", &mut || once(calls, &mut || {
+                black_box(unsafe { c::probe_copy(black_box(from.as_ptr()), CONTAINER, to.borrow_mut().as_mut_ptr(), CONTAINER) });
+            })),
+            ("memcpy", &mut || once(calls, &mut || memcpy(black_box(&from), black_box(&mut to.borrow_mut())))),
+            ("Rust, a plain loop", &mut || once(calls, &mut || plain_copy(black_box(&from), black_box(&mut to.borrow_mut())))),
         ],
     );
-    let mut message = vec![second::start_byte(b"03E5           ")];
-    message.extend_from_slice(b"03E5           ");
+    let mut message = vec![second::start_byte(&TRACE)];
+    message.extend_from_slice(&TRACE);
     show(
         "trace check of a good message",
-        500,
+        TURNS,
         &mut [
-            ("proved, one register", &mut || {
-                black_box(unsafe { card_trace_check(black_box(message.as_ptr()), 16) });
-            }),
-            ("second program, division of a copy", &mut || {
+            ("proved, one register", &mut || once(500, &mut || {
+                black_box(unsafe { c::card_trace_check(black_box(message.as_ptr()), 16) });
+            })),
+            ("second program, division of a copy", &mut || once(500, &mut || {
                 black_box(second::trace_check(black_box(&message)));
-            }),
+            })),
         ],
     );
     let word = [0x68u8, 0x00];
     show(
         "word reading",
-        5000,
+        TURNS,
         &mut [
-            ("proved", &mut || {
-                black_box(unsafe { card_word_reading(black_box(word.as_ptr()), 2) });
-            }),
-            ("second program", &mut || {
+            ("proved", &mut || once(5000, &mut || {
+                black_box(unsafe { c::card_word_reading(black_box(word.as_ptr()), 2) });
+            })),
+            ("second program", &mut || once(5000, &mut || {
                 black_box(second::word_reading(black_box(&word)));
-            }),
+            })),
         ],
     );
-    for n in [1usize, 8, 64, 512] {
-        let b = catalogue(n);
-        show(
-            &format!("catalogue check, {n} records that differ late in their traces"),
-            if n == 512 { 2 } else { 200 },
-            &mut [
-                ("proved", &mut || {
-                    black_box(unsafe { probe_check(black_box(b.as_ptr()), b.len()) });
-                }),
-                ("second program", &mut || {
-                    black_box(second::catalogue_check(black_box(&b)).is_ok());
-                }),
-            ],
-        );
-    }
-    sources();
 }
+
+// ---- the sink
+
+/// The units of a run, as many as settle a sink and then as many again.
+struct Run {
+    units: Vec<Vec<u8>>,
+    /// The copies that each unit has made, in bytes.
+    copied: Vec<usize>,
+}
+
+/// Units of one source at this offset, with an adjustment asked for in every fourth where `adjusting`: up, and down again.
+fn run(offset: u16, adjusting: bool) -> Run {
+    let given = second::Given { label: LABEL, f2: 1, h4: 2, f3: 3, k3: 4, n1: 5, violations: 0, remote: false };
+    let mut containers = second::ContainerSource::fresh();
+    let mut source = second::UnitSource { offset, wait: 3 };
+    let mut queue: Vec<Vec<u8>> = Vec::new();
+    let mut seed = 1;
+    let mut made = Run { units: Vec::new(), copied: Vec::new() };
+    for k in 0..160 {
+        while queue.len() < 2 {
+            let mut container = vec![0; CONTAINER];
+            containers = second::container_source(containers, given, &TRACE, &bytes(PAYLOAD, seed), &mut container).expect("a container");
+            queue.push(container);
+            seed += 2;
+        }
+        let asked = match (adjusting && k >= 8 && k % 4 == 0, k / 4 % 2) {
+            (false, _) => second::Asked::Nothing,
+            (true, 0) => second::Asked::Increment,
+            (true, _) => second::Asked::Decrement,
+        };
+        let mut unit = vec![0; UNIT];
+        let held = |offset: u16| if offset == 0 { 0 } else { CONTAINER - 3 * usize::from(offset) };
+        let before = held(source.offset);
+        let (ended, after) = second::unit_source(source, asked, &queue[0], &queue[1], &mut unit).expect("a unit");
+        source = after;
+        queue.drain(..usize::from(ended));
+        // a container begun earlier is completed: the held bytes, and the others from the unit; what is left is held
+        made.copied.push(if before > 0 { CONTAINER } else { 0 } + held(source.offset));
+        made.units.push(unit);
+    }
+    made
+}
+
+fn flags() -> c::Flags {
+    c::Flags { monitored: true, rdi: true, ssf: true, ais: true }
+}
+
+/// A run on a sink that the same run has settled, so that nothing but the units differs between calls.
+fn sinks(what: &str, run: &Run) {
+    let expected = second::Expected { label: LABEL, trace: TRACE, monitored: true, rdi_reported: true, ssf_reported: true, ais_reported: true };
+    let n = run.units.len() as f64;
+    // the same buffers for all, so that none has a better place in memory than another
+    let (held, done) = (RefCell::new(vec![0u8; CONTAINER]), RefCell::new(vec![0u8; CONTAINER]));
+    let proved_turn = |mut s: c::Plain| {
+        let (mut held, mut done) = (held.borrow_mut(), done.borrow_mut());
+        for unit in &run.units {
+            s = proved::sink(s, LABEL, &TRACE, flags(), unit, &mut held, &mut done).state;
+        }
+        s
+    };
+    let fast_turn = |s: &mut second::Sink| {
+        let (mut held, mut done) = (held.borrow_mut(), done.borrow_mut());
+        for unit in &run.units {
+            let _ = black_box(fast::sink(s, &expected, unit, &mut held, &mut done));
+        }
+    };
+    let plain_turn = |mut s: second::Sink| {
+        let (mut held, mut done) = (held.borrow_mut(), done.borrow_mut());
+        for unit in &run.units {
+            match second::sink(&s, &expected, unit, &mut held, &mut done, &mut |_| {}) {
+                Ok((after, answer)) => {
+                    black_box(answer);
+                    s = after;
+                }
+                Err(number) => panic!("refused {number}"),
+            }
+        }
+        s
+    };
+    let settled = Cell::new(proved_turn(proved::fresh_sink()));
+    let fast_state = RefCell::new(second::Sink::fresh());
+    fast_turn(&mut fast_state.borrow_mut());
+    let plain_state = RefCell::new(plain_turn(second::Sink::fresh()));
+    assert!(*fast_state.borrow() == *plain_state.borrow() && settled.get().total == plain_state.borrow().unsettled);
+    let timed = |f: &mut dyn FnMut()| once(1, f) / n;
+    let took = show(
+        what,
+        TURNS,
+        &mut [
+            ("proved", &mut || timed(&mut || {
+                settled.set(proved_turn(settled.get()));
+            })),
+            ("(a) second program, fast", &mut || timed(&mut || fast_turn(&mut fast_state.borrow_mut()))),
+            ("second program", &mut || timed(&mut || {
+                let after = plain_turn(plain_state.borrow().clone());
+                *plain_state.borrow_mut() = after;
+            })),
+            ("(b) one parity and one copy", &mut || timed(&mut || {
+                let mut done = done.borrow_mut();
+                for unit in &run.units {
+                    black_box(fast::parity(&unit[9..]));
+                    memcpy(&unit[9..], &mut done);
+                }
+            })),
+            ("one parity and the copies of this run", &mut || timed(&mut || {
+                let (mut held, mut done) = (held.borrow_mut(), done.borrow_mut());
+                for (unit, copied) in run.units.iter().zip(&run.copied) {
+                    black_box(fast::parity(&unit[9..]));
+                    let first = (*copied).min(CONTAINER);
+                    memcpy(&unit[9..9 + first], &mut done[..first]);
+                    memcpy(&unit[9..9 + copied - first], &mut held[..copied - first]);
+                }
+            })),
+        ],
+    );
+    println!("    {:<44} {:>11.0} VC-4", "one core carries, at 8000 units a second", 1e9 / UNITS_A_SECOND / took);
+}
+
+fn all_ones() {
+    let run = Run { units: vec![vec![0xFF; UNIT]; 160], copied: vec![0; 160] };
+    sinks("sink, all ones (nothing is copied, no parity is taken)", &run);
+}
+
+// ---- the sources
 
 /// The limit of a container source: one copy of the payload and one parity of the container, by the best plain code.
 #[inline(never)]
 fn copy_and_parity(payload: &[u8], container: &mut [u8]) -> u8 {
     container[..PAYLOAD].copy_from_slice(payload);
-    plain_parity(container)
+    fast::parity(container)
 }
 
 fn sources() {
-    let trace = *b"03E5           ";
-    let payload: Vec<u8> = (0..PAYLOAD).map(|i| (i * 29 + 3) as u8).collect();
-    let other: Vec<u8> = (0..CONTAINER).map(|i| (i * 13 + 5) as u8).collect();
-    let room = std::cell::RefCell::new(vec![0u8; UNIT]);
-
-    // calls in turn, so that one in 16 works a check out; both keep their own state
-    let state = std::cell::Cell::new((0u8, 0u8));
-    let second_state = std::cell::Cell::new(second::ContainerSource::fresh());
-    let g = second::Given { label: 0x12, f2: 1, h4: 2, f3: 3, k3: 4, n1: 5, violations: 3, remote: false };
-    show(
+    let payload = bytes(PAYLOAD, 29);
+    let other = bytes(CONTAINER, 13);
+    let room = RefCell::new(vec![0u8; UNIT]);
+    let given = second::Given { label: LABEL, f2: 1, h4: 2, f3: 3, k3: 4, n1: 5, violations: 3, remote: false };
+    // calls in turn, so that one in 16 works a check out; each keeps its own state
+    let state = Cell::new((0u8, 0u8));
+    let plain_state = Cell::new(second::ContainerSource::fresh());
+    let fast_state = RefCell::new(second::ContainerSource::fresh());
+    let took = show(
         "container source, calls in turn",
-        1600,
+        TURNS,
         &mut [
-            ("proved", &mut || {
+            ("proved", &mut || once(1600, &mut || {
                 let (place, parity) = state.get();
                 let mut to = room.borrow_mut();
                 let r = unsafe {
-                    probe_container(
-                        black_box(payload.as_ptr()), PAYLOAD, to.as_mut_ptr(), CONTAINER, &trace,
-                        place, parity, g.label, g.f2, g.h4, g.f3, g.k3, g.n1, g.violations, g.remote,
+                    c::probe_container(
+                        black_box(payload.as_ptr()), PAYLOAD, to.as_mut_ptr(), CONTAINER, &TRACE,
+                        place, parity, given.label, given.f2, given.h4, given.f3, given.k3, given.n1, given.violations, given.remote,
                     )
                 };
                 state.set(((r >> 8) as u8, r as u8));
-            }),
-            ("second program", &mut || {
+            })),
+            ("(a) second program, fast", &mut || once(1600, &mut || {
                 let mut to = room.borrow_mut();
-                let r = second::container_source(second_state.get(), black_box(g), &trace, black_box(&payload), &mut to[..CONTAINER]);
-                second_state.set(r.unwrap());
-            }),
-            ("one memcpy and one parity", &mut || {
+                let _ = black_box(fast::container_source(&mut fast_state.borrow_mut(), black_box(&given), &TRACE, black_box(&payload), &mut to[..CONTAINER]));
+            })),
+            ("second program", &mut || once(1600, &mut || {
+                let mut to = room.borrow_mut();
+                let r = second::container_source(plain_state.get(), black_box(given), &TRACE, black_box(&payload), &mut to[..CONTAINER]);
+                plain_state.set(r.expect("a container"));
+            })),
+            ("(b) one parity and one copy", &mut || once(1600, &mut || {
                 let mut to = room.borrow_mut();
                 black_box(copy_and_parity(black_box(&payload), &mut to[..CONTAINER]));
-            }),
+            })),
         ],
     );
+    let mut slowest = 0f64;
     for (what, offset, asked) in [
         ("unit source, plain at offset 0", 0u16, second::Asked::Nothing),
         ("unit source, plain at offset 1", 1, second::Asked::Nothing),
@@ -203,39 +327,146 @@ fn sources() {
         ("unit source, decrement at 400", 400, second::Asked::Decrement),
     ] {
         let number = asked as u8;
-        show(
+        let unit = show(
             what,
-            2000,
+            TURNS,
             &mut [
-                ("proved", &mut || {
+                ("proved", &mut || once(2000, &mut || {
                     let mut to = room.borrow_mut();
                     black_box(unsafe {
-                        probe_unit(black_box(other.as_ptr()), CONTAINER, black_box(other.as_ptr()), CONTAINER, to.as_mut_ptr(), UNIT, black_box(offset), 3, number)
+                        c::probe_unit(black_box(other.as_ptr()), CONTAINER, black_box(other.as_ptr()), CONTAINER, to.as_mut_ptr(), UNIT, black_box(offset), 3, number)
                     });
-                }),
-                ("second program", &mut || {
+                })),
+                ("(a) second program, fast", &mut || once(2000, &mut || {
+                    let mut to = room.borrow_mut();
+                    let mut s = second::UnitSource { offset: black_box(offset), wait: 3 };
+                    let _ = black_box(fast::unit_source(&mut s, asked, black_box(&other), black_box(&other), &mut to));
+                    black_box(s);
+                })),
+                ("second program", &mut || once(2000, &mut || {
                     let mut to = room.borrow_mut();
                     let s = second::UnitSource { offset: black_box(offset), wait: 3 };
                     black_box(second::unit_source(s, asked, black_box(&other), black_box(&other), &mut to).is_ok());
-                }),
-                ("one memcpy", &mut || memcpy(black_box(&other), black_box(&mut room.borrow_mut()[..CONTAINER]))),
+                })),
+                ("one memcpy", &mut || once(2000, &mut || memcpy(black_box(&other), black_box(&mut room.borrow_mut()[..CONTAINER])))),
             ],
         );
+        slowest = slowest.max(unit);
     }
+    println!("both sources");
+    println!("    {:<44} {:>11.0} VC-4", "one core sends, at 8000 units a second", 1e9 / UNITS_A_SECOND / (took + slowest));
     for ais in [false, true] {
         show(
             if ais { "payload call, AIS" } else { "payload call" },
-            2000,
+            TURNS,
             &mut [
-                ("proved", &mut || {
+                ("proved", &mut || once(2000, &mut || {
                     let mut to = room.borrow_mut();
-                    black_box(unsafe { probe_payload(black_box(other.as_ptr()), CONTAINER, to.as_mut_ptr(), PAYLOAD, ais) });
-                }),
-                ("second program", &mut || {
+                    black_box(unsafe { c::probe_payload(black_box(other.as_ptr()), CONTAINER, to.as_mut_ptr(), PAYLOAD, ais) });
+                })),
+                ("(a) second program, fast", &mut || once(2000, &mut || {
+                    let mut to = room.borrow_mut();
+                    black_box(fast::payload_call(black_box(&other), ais, &mut to[..PAYLOAD]).is_ok());
+                })),
+                ("second program", &mut || once(2000, &mut || {
                     let mut to = room.borrow_mut();
                     black_box(second::payload_call(black_box(&other), ais, &mut to[..PAYLOAD]).is_ok());
-                }),
+                })),
             ],
         );
     }
+}
+
+// ---- how the cost grows
+
+/// A good catalogue of n records whose traces agree in their first 11 characters.
+fn catalogue(n: usize) -> Vec<u8> {
+    let mut b = Vec::new();
+    for k in 0..n {
+        b.extend_from_slice(&[0x5A, 0x4D]);
+        b.extend_from_slice(&(k as u16 + 1).to_be_bytes());
+        b.push(LABEL);
+        b.extend_from_slice(format!("CIRCUIT-VC-{k:04}").as_bytes());
+        b.push(0x0F);
+    }
+    b
+}
+
+fn catalogues() {
+    for n in [1usize, 2, 4, 8, 16, 32, 64, 128, 256, 512] {
+        let b = catalogue(n);
+        let calls = (200 * 64 / (n * n)).clamp(2, 400);
+        let took = show(
+            &format!("catalogue check, {n} records that differ late in their traces"),
+            if n < 256 { TURNS } else { 100 },
+            &mut [
+                ("proved", &mut || once(calls, &mut || {
+                    black_box(unsafe { c::probe_check(black_box(b.as_ptr()), b.len()) });
+                })),
+                ("second program", &mut || once(calls, &mut || {
+                    black_box(second::catalogue_check(black_box(&b)).is_ok());
+                })),
+            ],
+        );
+        let pairs = n * (n - 1) / 2;
+        println!("    {:<44} {:>11.1} ns a record, {pairs} pairs", "", took / n as f64);
+    }
+}
+
+fn stacks() {
+    let container = bytes(CONTAINER, 13);
+    let mut room = vec![0u8; UNIT];
+    let mut done = vec![0u8; CONTAINER];
+    let text = bytes(16, 3);
+    let catalogue = catalogue(512);
+    let mut list = Box::new([0u8; 15898]);
+    let mut trace = [0u8; 15];
+    println!("stack of each entry point, in bytes");
+    stack::show("parity", &mut || {
+        black_box(unsafe { c::card_parity(container.as_ptr(), CONTAINER) });
+    });
+    stack::show("trace check", &mut || {
+        black_box(unsafe { c::card_trace_check(text.as_ptr(), 16) });
+    });
+    stack::show("word reading", &mut || {
+        black_box(unsafe { c::card_word_reading(text.as_ptr(), 2) });
+    });
+    stack::show("container source", &mut || {
+        black_box(unsafe { c::probe_container(container.as_ptr(), PAYLOAD, room.as_mut_ptr(), CONTAINER, &TRACE, 0, 0, LABEL, 1, 2, 3, 4, 5, 3, false) });
+    });
+    stack::show("unit source", &mut || {
+        black_box(unsafe { c::probe_unit(container.as_ptr(), CONTAINER, container.as_ptr(), CONTAINER, room.as_mut_ptr(), UNIT, 400, 3, 2) });
+    });
+    let unit = &run(400, false).units[0];
+    let mut s = proved::fresh_sink();
+    for _ in 0..3 {
+        s = proved::sink(s, LABEL, &TRACE, flags(), unit, &mut room[..CONTAINER], &mut done).state;
+    }
+    stack::show("sink (its state and answer, in and out, are counted too)", &mut || {
+        black_box(proved::sink(s, LABEL, &TRACE, flags(), unit, &mut room[..CONTAINER], &mut done));
+    });
+    stack::show("payload call", &mut || {
+        black_box(unsafe { c::probe_payload(container.as_ptr(), CONTAINER, room.as_mut_ptr(), PAYLOAD, false) });
+    });
+    stack::show("catalogue check", &mut || {
+        black_box(unsafe { c::probe_check(catalogue.as_ptr(), catalogue.len()) });
+    });
+    stack::show("lookup", &mut || {
+        black_box(unsafe { c::probe_lookup(catalogue.as_ptr(), catalogue.len(), 512, &mut trace) });
+    });
+    stack::show("listing", &mut || {
+        black_box(unsafe { c::probe_list(catalogue.as_ptr(), catalogue.len(), &mut *list) });
+    });
+}
+
+fn main() {
+    for offset in [0, 1, 400, 782] {
+        sinks(&format!("sink, plain units at offset {offset}"), &run(offset, false));
+    }
+    sinks("sink, an adjustment in every fourth unit, about offset 400", &run(400, true));
+    all_ones();
+    sources();
+    parts();
+    catalogues();
+    stacks();
 }
