@@ -1,0 +1,382 @@
+#!/usr/bin/env python3
+"""The names of this repository, read from its own text: public functions, definitions, theorems, edits, and what each promise cites.
+
+Usage: names.py functions|items|definitions|theorems|parts|edits|cases|cited     prints the names, each with its place.
+
+As a module, each of these answers with a dictionary in the order of the files:
+
+    public_functions()   `crate::name`            -> Place     a library's `pub fn` and `pub extern "C" fn`; a program has none
+    items()              `crate::name`            -> Place     every function, constant, struct and enum, private ones too; of a module `crate::module::name`
+    definitions()        `crate/File.name`        -> Place     the top-level names of crates/*/specs/*.antt
+    theorems()           `crate/proofs/File.name` -> Place     those of crates/*/proofs/*.antt, but not of a function's own Proof.antt
+    parts()              either, `.part` behind   -> Place     a record's fields and a data type's cases, in specs and proofs
+    edits()              `crate/label`            -> Place     crates/*/must-fail/*.edit
+    cases()              `name`                   -> Place     the cases of second/bench.rs, each of which a random script must meet
+    contracts()          `crate::name`            -> the definitions, `crate/File.name`, that the contract of a library's function cites
+    cited()              the same of the public functions alone
+    asking()             the functions, `crate::name`, that have a requires
+    uses()               definition or theorem    -> the definitions and theorems that its own text names
+
+A Place is a file, from the repository's root, a line, and whether the name is public there. A fault of the text that stops the reading
+(a contract that does not close, a definition named twice) is raised as Unreadable; the program then exits with 2.
+"""
+import collections
+import functools
+import pathlib
+import re
+import sys
+
+ROOT = pathlib.Path(__file__).resolve().parent.parent
+
+Place = collections.namedtuple("Place", "file line public")
+
+
+class Unreadable(Exception):
+    """The text is not as it is expected to be."""
+
+
+def text_of(path):
+    return path.read_text(encoding="utf-8")
+
+
+def shown(path):
+    """A path from the repository's root."""
+    return path.relative_to(ROOT).as_posix()
+
+
+def put(names, name, place):
+    if name in names:
+        raise Unreadable(f"{place.file}:{place.line}: {name} stands at {names[name].file}:{names[name].line} too")
+    names[name] = place
+
+
+# ---- antt: definitions and theorems
+
+# modifiers; then a name and its type, or a record, data type or set of rules
+MODIFIERS = r"(?P<modifiers>(?:(?:pub|abbrev|unfoldable|private) )*)"
+TYPED = re.compile(MODIFIERS + r"(?P<names>[^\s(){}:=]\S*(?: [^\s(){}:=]\S*)*?) :(?:\s|$)")
+NAMED = re.compile(MODIFIERS + r"(?P<form>record|data|ruleset) (?P<name>[^\s(){}:=]\S*)\s")
+MODULE = re.compile(r"module \S+.*")
+SKIPPED = ("use ", "pub use ", "pub mod ", "unfolding ", "--")
+
+Name = collections.namedtuple("Name", "name line public owner heads")
+
+
+def antt_names(path):
+    """The names of a file. The owner is the record or data type of a part, else nothing; the heads are those of the modules it stands in.
+
+    A module's body counts as the file's own, whatever its depth; what stands deeper than the body that holds it is a continuation.
+    """
+    bodies = [(-1, "module", "", 0)]  # for each open body: the indent of its head, its form, its head or name, the indent of what is in it
+    for number, line in enumerate(text_of(path).split("\n"), 1):
+        body = line.lstrip(" ")
+        if not body or body.startswith("--"):
+            continue
+        indent = len(line) - len(body)
+        while indent <= bodies[-1][0]:
+            bodies.pop()
+        outside, form, owner, inside = bodies[-1]
+        if inside is None:
+            inside = indent
+            bodies[-1] = (outside, form, owner, inside)
+        if indent != inside or body.startswith(SKIPPED):
+            continue
+        if form == "module" and MODULE.match(body):
+            bodies.append((indent, "module", body, None))
+            continue
+        heads = [head for _, kind, head, _ in bodies if kind == "module"]
+        found = NAMED.match(body) if form == "module" else None
+        if found:
+            yield Name(found["name"], number, "pub" in found["modifiers"], None, heads)
+            if found["form"] != "ruleset":
+                bodies.append((indent, found["form"], found["name"], None))
+            continue
+        found = TYPED.match(body)
+        if found:
+            for name in found["names"].split(" "):
+                yield Name(name, number, form == "data" or "pub" in found["modifiers"], None if form == "module" else owner, heads)
+
+
+def antt_files(folder):
+    """A crate's antt files in a folder, as (crate, the file's name without its ending, path)."""
+    for path in sorted(ROOT.glob(f"crates/*/{folder}/**/*.antt")):
+        inside = path.relative_to(ROOT / "crates")
+        if path.name not in ("Lib.antt", "Proof.antt"):
+            yield inside.parts[0], "/".join(inside.with_suffix("").parts[2:]), path
+
+
+def antt_table(folder, wanted):
+    names = {}
+    for crate, stem, path in antt_files(folder):
+        front = f"{crate}/{stem}" if folder == "specs" else f"{crate}/{folder}/{stem}"
+        for found in antt_names(path):
+            if wanted(found.owner):
+                full = f"{front}.{found.owner}.{found.name}" if found.owner else f"{front}.{found.name}"
+                put(names, full, Place(shown(path), found.line, found.public))
+    return names
+
+
+@functools.cache
+def definitions():
+    return antt_table("specs", lambda owner: owner is None)
+
+
+@functools.cache
+def theorems():
+    return antt_table("proofs", lambda owner: owner is None)
+
+
+@functools.cache
+def parts():
+    names = antt_table("specs", lambda owner: owner is not None)
+    names.update(antt_table("proofs", lambda owner: owner is not None))
+    return names
+
+
+# ---- rt: public functions and what they cite
+
+FUNCTION = re.compile(r'^(?P<public>pub )?(?:extern "C" )?fn (?P<name>\w+)', re.M)
+ITEM = re.compile(r'^(?P<public>pub )?(?:(?:extern "C" )?fn|const|struct|enum) (?P<name>\w+)', re.M)
+IMPORT = re.compile(r"^ghost use (?P<path>[^\s;{]+?)(?:\.\{(?P<names>[^}]*)\}| as (?P<alias>\S+));", re.M)
+SPECS = re.compile(r"^Rattle·(?P<crate>\w+?)(?:·specs)?\.specs\.(?P<file>[^.]+)$")
+CLAUSE = re.compile(r"\b(?P<word>requires|ensures)\b[^{\n]*\{")
+BOUND = re.compile(r"λ ([^.⌜]*)\.\s")
+
+
+def rt_files():
+    """The sources of the libraries, as (crate, path). A crate with a main.rt is a program: its functions are its own."""
+    for path in sorted(ROOT.glob("crates/*/src/*.rt")):
+        if not (path.parent / "main.rt").exists():
+            yield path.parts[-3], path
+
+
+def line_of(text, at):
+    return text.count("\n", 0, at) + 1
+
+
+@functools.cache
+def public_functions():
+    names = {}
+    for crate, path in rt_files():
+        text = text_of(path)
+        for found in FUNCTION.finditer(text):
+            if found["public"]:
+                put(names, f"{crate}::{found['name']}", Place(shown(path), line_of(text, found.start()), True))
+    return names
+
+
+@functools.cache
+def items():
+    names = {}
+    for path in sorted(ROOT.glob("crates/*/src/*.rt")):
+        front = path.parts[-3] if path.stem in ("lib", "main") else f"{path.parts[-3]}::{path.stem}"
+        text = text_of(path)
+        for found in ITEM.finditer(text):
+            put(names, f"{front}::{found['name']}", Place(shown(path), line_of(text, found.start()), bool(found["public"])))
+    return names
+
+
+def imports(text):
+    """What a file's `ghost use` lines bring in of specs: a name, or `alias.`, to `crate/File`."""
+    names = {}
+    for found in IMPORT.finditer(text):
+        specs = SPECS.match(found["path"])
+        if not specs:
+            continue
+        front = f"{specs['crate']}/{specs['file']}"
+        if found["alias"]:
+            names[found["alias"] + "."] = front
+        for name in (found["names"] or "").split(","):
+            if name.strip():
+                names[name.strip()] = front
+    return names
+
+
+def closing(text, at, path):
+    """The place behind the brace that closes the one before `at`."""
+    depth = 1
+    while depth:
+        if at == len(text):
+            raise Unreadable(f"{shown(path)}: a contract that does not close")
+        depth += {"{": 1, "}": -1}.get(text[at], 0)
+        at += 1
+    return at
+
+
+def contract(text, at, path):
+    """The clauses of the function whose head stands at `at`, each with its word, and the names of its arguments.
+
+    The first brace that opens no clause opens its body.
+    """
+    clauses, place, head = [], at, None
+    while True:
+        brace = text.find("{", place)
+        if brace < 0:
+            raise Unreadable(f"{shown(path)}:{line_of(text, at)}: a function with no body")
+        clause = CLAUSE.search(text, place, brace + 1)
+        head = head or text[at : clause.start() if clause else brace]
+        if not clause:
+            return clauses, set(re.findall(r"(\w+)\s*:", head))
+        place = closing(text, brace + 1, path)
+        clauses.append((clause["word"], text[brace + 1 : place - 1]))
+
+
+def words_cited(text, known, bound):
+    """The names of `known` that a text cites, resolved. An operator `_+_` is cited by what stands between the blanks; a field, `.x` or `x =`, is not."""
+    operators = {name.strip("_"): name for name in known if name.startswith("_") and name.endswith("_") and len(name) > 2}
+    words = re.sub(r"[(){}⌜⌝,;]", " ", text).split()
+    for word, following in zip(words, words[1:] + [""]):
+        front, dot, name = word.partition(".")
+        if dot and front + "." in known and name:
+            yield f"{known[front + '.']}.{name}"
+        elif word in operators:
+            yield f"{known[operators[word]]}.{operators[word]}"
+        elif word in known and following != "=" and word not in bound:
+            yield f"{known[word]}.{word}"
+
+
+def bound_in(clause):
+    return {name for found in BOUND.finditer(clause) for name in re.split(r"[\s():]+", found[1])}
+
+
+@functools.cache
+def contracts():
+    names = {}
+    for crate, path in rt_files():
+        text = text_of(path)
+        known = imports(text)
+        for found in FUNCTION.finditer(text):
+            clauses, bound = contract(text, found.start(), path)
+            all_cited = {name for _, clause in clauses for name in words_cited(clause, known, bound | bound_in(clause))}
+            names[f"{crate}::{found['name']}"] = sorted(all_cited)
+    return names
+
+
+@functools.cache
+def asking():
+    names = set()
+    for crate, path in rt_files():
+        text = text_of(path)
+        for found in FUNCTION.finditer(text):
+            clauses, bound = contract(text, found.start(), path)
+            if any(word == "requires" for word, _ in clauses):
+                names.add(f"{crate}::{found['name']}")
+    return names
+
+
+@functools.cache
+def cited():
+    return {name: contracts()[name] for name in public_functions()}
+
+
+# ---- what a definition or a theorem is made of
+
+USE = re.compile(
+    r"^(?:pub )?use Rattle·(?P<crate>\w+?)(?:·specs|·proofs)?\.(?P<folder>specs|proofs)\.(?P<file>[^.\s{]+)"
+    r"(?:\.\{(?P<names>[^}]*)\}| as (?P<alias>\S+))$",
+    re.M,
+)
+
+
+def used(text):
+    """What the `use` lines of an antt file bring in: a name, or `alias.`, to `crate/File` or `crate/proofs/File`."""
+    names = {}
+    for found in USE.finditer(text):
+        front = f"{found['crate']}/{found['file']}" if found["folder"] == "specs" else f"{found['crate']}/proofs/{found['file']}"
+        if found["alias"]:
+            names[found["alias"] + "."] = front
+        for name in (found["names"] or "").split(","):
+            if name.strip():
+                names[name.strip()] = front
+    return names
+
+
+def own_texts(path):
+    """Each top-level name of a file with its own lines and the heads of its modules; comments, `unfolding` and other modules' heads are left out."""
+    lines = text_of(path).split("\n")
+    starts = [found for found in antt_names(path) if found.owner is None]
+    ends = [found.line for found in starts[1:]] + [len(lines) + 1]
+    for found, end in zip(starts, ends):
+        own = [line for line in lines[found.line - 1 : end - 1] if not line.lstrip().startswith(("--", "unfolding ", "use ", "module "))]
+        yield found.name, "\n".join(found.heads + own)
+
+
+@functools.cache
+def uses():
+    names = {}
+    for folder in ("specs", "proofs"):
+        for crate, stem, path in antt_files(folder):
+            front = f"{crate}/{stem}" if folder == "specs" else f"{crate}/proofs/{stem}"
+            known = used(text_of(path))
+            known.update({found.name: front for found in antt_names(path) if found.owner is None})
+            for name, own in own_texts(path):
+                names.setdefault(f"{front}.{name}", set()).update(words_cited(own, known, {name}))
+    return names
+
+
+def reached(roots):
+    """All that is used from these names on, they among it."""
+    found, left = set(), list(roots)
+    while left:
+        name = left.pop()
+        if name not in found:
+            found.add(name)
+            left.extend(uses().get(name, ()))
+    return found
+
+
+# ---- edits
+
+@functools.cache
+def edits():
+    return {f"{path.parts[-3]}/{path.stem}": Place(shown(path), 1, True) for path in sorted(ROOT.glob("crates/*/must-fail/*.edit"))}
+
+
+# ---- cases
+
+SECOND = ROOT / "second" / "bench.rs"
+
+
+@functools.cache
+def cases():
+    text = text_of(SECOND)
+    start = text.find("pub const NAMES")
+    end = text.find("];", start)
+    if start < 0 or end < 0:
+        raise Unreadable(f"{shown(SECOND)}: the list NAMES of its cases is not there")
+    names = {}
+    for found in re.finditer(r'"([^"\n]+)"', text[start:end]):
+        put(names, found[1], Place(shown(SECOND), line_of(text, start + found.start()), True))
+    return names
+
+
+TABLES = {
+    "functions": public_functions,
+    "items": items,
+    "definitions": definitions,
+    "theorems": theorems,
+    "parts": parts,
+    "edits": edits,
+    "cases": cases,
+}
+
+
+def main():
+    if len(sys.argv) != 2 or sys.argv[1] not in [*TABLES, "cited"]:
+        print(__doc__.split("\n\n")[1], file=sys.stderr)
+        return 2
+    try:
+        if sys.argv[1] == "cited":
+            for name, all_cited in cited().items():
+                print(f"{name}: {' '.join(all_cited)}")
+        else:
+            for name, place in TABLES[sys.argv[1]]().items():
+                print(f"{name}  {place.file}:{place.line}")
+    except Unreadable as fault:
+        print(f"names.py: {fault}", file=sys.stderr)
+        return 2
+    return 0
+
+
+if __name__ == "__main__":
+    sys.exit(main())
