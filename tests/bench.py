@@ -5,8 +5,8 @@
     tests/bench.py --try SECOND SCRIPTS [SEEDS [UNITS]]
 
 BENCH reads a script on standard input; SECOND is the second program, asked with `bench`;
-SCRIPTS makes a script from a seed and a number of units; the scripts under examples are
-played too, each on a fresh bench. The first line that differs is printed with the script
+SCRIPTS makes a script from a seed and a number of units; the scripts under examples and
+lessons are played too, each on a fresh bench. The first line that differs is printed with the script
 up to the line that caused it. Every case that the second program names must be met by
 some random script.
 
@@ -149,12 +149,11 @@ def try_all(second, played):
 
 
 def examples():
-    """The scripts under examples, by name."""
+    """The scripts under examples and lessons, by name."""
     found = []
-    for folder, _, files in os.walk(os.path.join(ROOT, "examples")):
-        for file in files:
-            if file.endswith(".bench"):
-                found.append(os.path.join(folder, file))
+    for top in ("examples", "lessons"):
+        for folder, _, files in os.walk(os.path.join(ROOT, top)):
+            found += [os.path.join(folder, file) for file in files if file.endswith(".bench")]
     for path in sorted(found):
         with open(path, "rb") as file:
             yield os.path.relpath(path, ROOT), BEGIN + file.read()
@@ -209,7 +208,7 @@ def main():
     never = [name for name, count in met.items() if count == 0]
     for name in never:
         print(f"bench.py: {name} was never met")
-    print(f"bench.py: {seeds} seeds and {others} examples; of the seeds {compared} lines alike, {sinks} units (normal {states['normal']}, "
+    print(f"bench.py: {seeds} seeds and {others} examples and lessons; of the seeds {compared} lines alike, {sinks} units (normal {states['normal']}, "
           f"alarm {states['alarm']}, lost {states['lost']}, settled {settled}), {refused} refused, "
           f"{len(met) - len(never)} of {len(met)} cases met")
     if never or not met:

@@ -1,0 +1,343 @@
+#!/usr/bin/env python3
+"""The lessons: each script prints what is kept beside it, and shows what it is there for.
+
+    tests/lessons.py PROGRAM [ARGS..]
+
+PROGRAM with its ARGS reads a script of the bench on standard input: `target/host/second bench`, or
+`target/bin/bench`. Each lessons/NAME.bench is played and must print lessons/NAME.out; the first line
+that differs is printed with its number. Then the scripts themselves are looked at. Four comments of a
+script are read by this test:
+
+    # see: WORDS          behind a command: the words stand in the line that it printed last, in this order (`c=U@9,F,v=0,fe=0` is four words)
+    # row P1: ..          the unit up to the next `sink` has the word of that row of 01's table; ROWS says what must follow
+    # not understood: ..  the next line prints `? N`; no other line may
+    # Question: and # Answer:   one of each, and the same question stands in lessons/README.md
+
+Links of lessons/README.md and docs/GLOSSARY.md must lead to files that are there, and a definition that
+is named behind one must stand in its file.
+"""
+
+import os
+import re
+import subprocess
+import sys
+
+LIMIT = 60  # seconds for one script
+ROOT = os.path.dirname(os.path.dirname(os.path.abspath(__file__)))
+FOLDER = os.path.join(ROOT, "lessons")
+PAGES = ("lessons/README.md", "docs/GLOSSARY.md")
+PRINTING = ("src", "sink", "show", "payload", "cat", "lookup", "list", "parity", "check", "read")
+HEADING = "circuit label trace flags"
+RECORD = 42  # hex digits of a catalogue's record
+TOP = 782
+
+# 01, "Pointer words and units on both sides": offset before, word, how it is taken, offset after. Then by "Containers out of a
+# unit" how many end in it. P2b is the "run only" sentence on P2 with two units since the last adjustment.
+ROWS = {
+    "P1": (0, 0x6800, "plain", 0, 1),
+    "P2": (0, 0x6AAA, "increment", 1, 0),
+    "P2b": (0, 0x6AAA, "invalid, too soon", 0, 1),
+    "P3": (0, 0x6955, "decrement", 782, 1),
+    "P4": (782, 0x69A4, "increment", 0, 1),
+    "P5": (1, 0x6954, "decrement", 0, 2),
+    "P6": (782, 0x6800, "increment", 0, 1),
+    "P7": (0, 0x6B0F, "invalid", 0, 1),
+    "P8": (0, 0x6C00, "invalid", 0, 1),
+    "P9": (0, 0x7800, "plain", 0, 1),
+    "P10": (0, 0x0800, "invalid", 0, 1),
+    "P11": (5, 0x9800, "new data", 0, 1),
+    "P12": (5, 0x1801, "new data", 1, 0),
+}
+# Lessons that more is asked of than that they print what is kept
+STEPS, TOGETHER, MOST = "05-none-one-or-two", "07-two-causes", "13-exactly-66"
+
+
+class Shown:
+    """A command with the lines that it printed; for `sink` also the word of the unit that was fed."""
+
+    def __init__(self, number, command, lines, word=None):
+        self.number, self.command, self.lines, self.word = number, command, lines, word
+
+    def field(self, name):
+        """A field of the printed line, as text; none where it has none."""
+        found = re.search(rf"(?:^| ){name}=(\S*)", self.lines[-1])
+        return found.group(1) if found else None
+
+    def fed(self):
+        return self.command == "sink" and self.lines[-1].startswith("ok ")
+
+
+class Lesson:
+    def __init__(self, name, script, shown):
+        self.name, self.script, self.shown = name, script, shown
+
+    def sinks(self):
+        return [one for one in self.shown if one.fed()]
+
+
+def play(program, script, name):
+    try:
+        done = subprocess.run(program, input=script, stdout=subprocess.PIPE, stderr=subprocess.PIPE, timeout=LIMIT, check=False)
+    except (subprocess.TimeoutExpired, OSError) as error:
+        sys.exit(f"lessons.py: {name}: {error}")
+    if done.returncode != 0:
+        sys.exit(f"lessons.py: {name}: {program[0]} ended with {done.returncode}: {done.stderr.decode(errors='replace')[-2000:]}")
+    return done.stdout
+
+
+def compare(name, printed, kept, fault):
+    """The first line that is not the one kept."""
+    ours, theirs = printed.decode(errors="replace").split("\n"), kept.decode(errors="replace").split("\n")
+    for place in range(max(len(ours), len(theirs))):
+        a = ours[place] if place < len(ours) else "(no line)"
+        b = theirs[place] if place < len(theirs) else "(no line)"
+        if a != b:
+            fault(f"{name}.out:{place + 1}", f"printed: {a}\n    kept:    {b}")
+            return
+
+
+def how_many(command, argument, first):
+    """Lines that a command prints, its first line being given: only a listing has more than one."""
+    if command == "list" and first == HEADING:
+        return 1 + len(argument) // RECORD
+    return 1
+
+
+def pair(name, script, printed, fault):
+    """Each command that prints, with its lines."""
+    said, shown, word = list(printed), [], None
+    for number, line in enumerate(script, 1):
+        if not line.strip() or line.startswith("#"):
+            continue
+        command, *arguments = line.split(" ")
+        if said and said[0] == f"? {number}":
+            shown.append(Shown(number, "?", [said.pop(0)]))
+            continue
+        if command == "word":
+            word = int(arguments[0], 16)
+        elif command == "ones":
+            word = 0xFFFF
+        if command not in PRINTING:
+            continue
+        if not said:
+            fault(f"{name}.bench:{number}", f"`{line}` prints nothing")
+            return shown
+        count = how_many(command, arguments[-1] if arguments else "", said[0])
+        one = Shown(number, command, said[:count], word if command == "sink" else None)
+        del said[:count]
+        shown.append(one)
+        if command == "src" and one.field("word"):
+            word = int(one.field("word"), 16)
+    for line in said:
+        fault(f"{name}.bench", f"one line more is printed: {line}")
+    return shown
+
+
+# ---- the comments that are read
+
+def look_at_claims(lesson, fault):
+    """`# see:` is true of what was printed last."""
+    for number, line in enumerate(lesson.script, 1):
+        if not line.startswith("# see:"):
+            continue
+        before = [one for one in lesson.shown if one.number < number]
+        if not before:
+            fault(f"{lesson.name}.bench:{number}", "nothing was printed before this line")
+            continue
+        last = before[-1].lines[-1]
+        words = iter(re.split("[ ,]+", last))
+        for claim in line[len("# see:"):].split():
+            if claim not in words:  # looks no further than the claim's word, so that the next must come behind it
+                fault(f"{lesson.name}.bench:{number}", f"{claim} is not there, or not in this order: {last}")
+                break
+
+
+def look_at_questions(lesson, page, fault):
+    """One question and its answer; the page asks the same."""
+    for kind in ("# Question: ", "# Answer: "):
+        if sum(line.startswith(kind) for line in lesson.script) != 1:
+            fault(f"{lesson.name}.bench", f"there is not one `{kind.strip()}`")
+    for line in lesson.script:
+        if line.startswith("# Question: ") and line[len("# Question: "):] not in page:
+            fault("lessons/README.md", f"the question of {lesson.name} is not there: {line}")
+    if f"]({lesson.name}.bench)" not in page:
+        fault("lessons/README.md", f"{lesson.name}.bench is not linked")
+
+
+def look_at_strange_lines(lesson, fault):
+    """`? N` is printed where the lesson says so, and nowhere else."""
+    said = {number + 1 for number, line in enumerate(lesson.script, 1) if line.startswith("# not understood")}
+    strange = {one.number for one in lesson.shown if one.command == "?"}
+    for number in sorted(strange ^ said):
+        what = "is not understood" if number in strange else "is understood, though the lesson says otherwise"
+        fault(f"{lesson.name}.bench:{number}", f"the line {what}")
+
+
+# ---- the rows of the table
+
+def alike(word):
+    """The value of a word that counts in a run (normal NDF, SS 10, in range); none where it does not count."""
+    value = word & 0x3FF
+    normal = word >> 12 in (0b0110, 0b1110, 0b0010, 0b0100, 0b0111)
+    return value if normal and word >> 10 & 3 == 2 and value <= TOP else None
+
+
+def units_since(sinks):
+    """Units fed since the offset of a normal state last moved, that one not counted; a large number where it never did."""
+    for back in range(len(sinks) - 1, 0, -1):
+        here, before = sinks[back], sinks[back - 1]
+        if here.field("st") == before.field("st") == "normal" and here.field("off") != before.field("off"):
+            return len(sinks) - 1 - back
+    return 1000
+
+
+def look_at_row(lesson, marker, row, fault):
+    before, word, taken, after, ended = ROWS[row]
+    place = f"{lesson.name}.bench:{marker}"
+    earlier = [one for one in lesson.sinks() if one.number < marker]
+    later = [one for one in lesson.sinks() if one.number > marker]
+    if not earlier or not later:
+        fault(place, "no unit before the row's, or none of the row")
+        return
+    last, here, then = earlier[-1], later[0], later[1:8]
+    if (last.field("st"), last.field("off")) != ("normal", str(before)):
+        fault(place, f"{row} begins at offset {before}, not so: {last.lines[-1]}")
+    if here.word != word:
+        fault(place, f"{row} has the word {word:04X}, not {here.word:04X}")
+    found = here.field("st"), here.field("off"), here.field("ended")
+    if found != ("normal", str(after), str(ended)):
+        fault(place, f"{row} is {taken}: normal, offset {after}, {ended} ended; printed: {here.lines[-1]}")
+    # "Wait passed, state normal, the word the first of its run and row"
+    since = units_since(earlier)
+    if (since != 2) if row == "P2b" else (since < 3):
+        fault(place, f"{since} units since the last adjustment")
+    if alike(word) is not None and alike(last.word) == alike(word):
+        fault(place, f"the word is not the first of its run: {last.word:04X} came before it")
+    if taken in ("invalid", "new data") and alike(last.word) != before:
+        fault(place, f"the word may not be the first of its row: {last.word:04X} came before it")
+    # plain and invalid leave one and the same line; eight in a row tell them apart
+    if taken in ("plain", "invalid"):
+        states = [one.field("st") for one in then]
+        if [one.word for one in then] != [word] * 7:
+            fault(place, f"{row} is {taken}: the same word must come seven times more")
+        elif states != ["normal"] * 6 + ["normal" if taken == "plain" else "lost"]:
+            fault(place, f"{row} is {taken}; the seven units after it end {' '.join(states)}")
+
+
+def look_at_rows(lessons, fault):
+    met = {}
+    for lesson in lessons:
+        for number, line in enumerate(lesson.script, 1):
+            found = re.match(r"# row (P\w+)", line)
+            if not found:
+                continue
+            row = found.group(1)
+            met.setdefault(row, []).append(lesson.name)
+            file_row = re.match(r"P0?(\w+)-", lesson.name)
+            if row not in ROWS or not file_row or f"P{file_row.group(1)}" != row:
+                fault(f"{lesson.name}.bench:{number}", f"{row} is no row of this lesson")
+            else:
+                look_at_row(lesson, number, row, fault)
+    for row in ROWS:
+        if len(met.get(row, [])) != 1:
+            fault("lessons", f"row {row} has {len(met.get(row, []))} lessons")
+
+
+# ---- single lessons
+
+def look_at_steps(lesson, fault):
+    for count in ("0", "2"):
+        if not any(one.field("st") == "normal" and one.field("ended") == count for one in lesson.sinks()):
+            fault(f"{lesson.name}.bench", f"no normal unit has ended={count}")
+
+
+def look_at_together(lesson, fault):
+    if not any(one.field("cause") == "0000011" for one in lesson.sinks()):
+        fault(f"{lesson.name}.bench", "no unit has cRDI and cPLM and no other cause")
+
+
+def look_at_most(lesson, fault):
+    place = f"{lesson.name}.bench"
+    told = [(one.field("settled"), one.field("total")) for one in lesson.sinks()]
+    if told != [("0", str(count)) for count in range(1, 67)] + [("1", "66")]:
+        unsettled = sum(settled == "0" for settled, _ in told)
+        fault(place, f"{unsettled} of {len(told)} units end unsettled, not the first 66 of 67, or the total is another")
+    with open(os.path.join(ROOT, "examples", "settling", "worst.bench"), encoding="ascii") as file:
+        worst = [line for line in file.read().splitlines() if not line.startswith("#")]
+    if [line for line in lesson.script if not line.startswith("#")] != worst:
+        fault(place, "its commands are not those of examples/settling/worst.bench")
+
+
+def look_at_links(page, text, fault):
+    """A link leads to a file that is there; `[Word](FILE) `name`` is a definition of that name in it."""
+    folder = os.path.dirname(page)
+    for target, name in re.findall(r"\]\(([^)#]+)(?:#[^)]*)?\)(?: `([^`]+)`)?", text):
+        path = os.path.normpath(os.path.join(folder, target))
+        if not os.path.exists(os.path.join(ROOT, path)):
+            fault(page, f"{target} is not there")
+        elif name and not re.search(rf"^(?:abbrev|unfoldable) pub {re.escape(name)} :", read(path).decode(), re.MULTILINE):
+            fault(page, f"{target} has no definition {name}")
+
+
+# ---- all of them
+
+def read(path):
+    try:
+        with open(os.path.join(ROOT, path), "rb") as file:
+            return file.read()
+    except OSError as error:
+        sys.exit(f"lessons.py: {error}")
+
+
+def lesson_of(program, name, fault):
+    text = read(f"lessons/{name}.bench")
+    if not text.startswith(b"# ") or not text.endswith(b"\n") or not text.isascii():
+        fault(f"{name}.bench", "it does not open with a comment, does not end with LF, or is not ASCII")
+    printed = play(program, text, name)
+    compare(name, printed, read(f"lessons/{name}.out"), fault)
+    script = text.decode(errors="replace").splitlines()
+    return Lesson(name, script, pair(name, script, printed.decode(errors="replace").splitlines(), fault))
+
+
+def main():
+    if len(sys.argv) < 2:
+        sys.exit("usage: lessons.py PROGRAM [ARGS..]")
+    program = [os.path.abspath(sys.argv[1]), *sys.argv[2:]]
+    failed = 0
+
+    def fault(place, what):
+        nonlocal failed
+        failed += 1
+        print(f"lessons.py: {place}: {what}")
+
+    try:
+        files = os.listdir(FOLDER)
+    except OSError as error:
+        sys.exit(f"lessons.py: {error}")
+    scripts, kept = ({file[:-len(end)] for file in files if file.endswith(end)} for end in (".bench", ".out"))
+    for name in sorted(scripts ^ kept):
+        fault(name, "a script without its .out, or the other way round")
+    lessons = [lesson_of(program, name, fault) for name in sorted(scripts & kept)]
+    pages = {page: read(page).decode() for page in PAGES}
+    for lesson in lessons:
+        look_at_claims(lesson, fault)
+        look_at_strange_lines(lesson, fault)
+        look_at_questions(lesson, pages[PAGES[0]], fault)
+    look_at_rows(lessons, fault)
+    by_name = {lesson.name: lesson for lesson in lessons}
+    for name, look in ((STEPS, look_at_steps), (TOGETHER, look_at_together), (MOST, look_at_most)):
+        if name in by_name:
+            look(by_name[name], fault)
+        else:
+            fault("lessons", f"{name} is not there")
+    for page, text in pages.items():
+        look_at_links(page, text, fault)
+    units = sum(len(lesson.sinks()) for lesson in lessons)
+    if failed:
+        print(f"lessons: {len(lessons)} scripts, {units} units, {failed} faults")
+        sys.exit(1)
+    print(f"lessons: {len(lessons)} scripts, {units} units, all as kept")
+
+
+if __name__ == "__main__":
+    main()
