@@ -4,10 +4,11 @@
 Usage: frames.py FRAMES     the built program of tests/frames.rs; tshark must be there.
 
 For some offsets FRAMES writes a few hundred units with adjustments among them.
-They are put into STM-1 frames, and tshark's SDH dissector, which is not ours,
-finds H1, H2, the pointer value and J1 in each frame. What it found is compared
-with what the rules say of that unit, worked out here from the starting offset
-and from what FRAMES asked for, and so is what FRAMES itself says of the unit.
+They are put into STM-1 frames, as tools/pcap.py does it, and tshark's SDH
+dissector, which is not ours, finds H1, H2, the pointer value and J1 in each
+frame. What it found is compared with what the rules say of that unit, worked
+out here from the starting offset and from what FRAMES asked for, and so is what
+FRAMES itself says of the unit.
 
 The dissector reads each word as it stands and knows no adjustments: in an
 adjustment unit H1 and H2 are compared, value and J1 are not. For values from
@@ -16,10 +17,14 @@ before: there it finds the J1 that stands in the unit before, be that one an
 adjustment unit or not.
 """
 import os
-import struct
 import subprocess
 import sys
 import tempfile
+
+# the frames are made in one place
+sys.dont_write_bytecode = True
+sys.path.insert(0, os.path.join(os.path.dirname(os.path.dirname(os.path.abspath(__file__))), "tools"))
+import pcap
 
 COUNT = 300
 # Offset, seed and trace of each run. Any two characters of the second trace differ.
@@ -41,9 +46,7 @@ IN_THE_ONE_BEFORE = 522
 # A unit's first place that carries container bytes, and the bits of the word that are inverted.
 ASKED = {"plain": (9, 0), "increment": (12, 0b1010101010), "decrement": (6, 0b0101010101)}
 STEP = {"plain": 0, "increment": 1, "decrement": -1}
-UNIT = 2358
 
-USER_0 = 147
 FIELDS = ["frame.number", "sdh.h1", "sdh.h2", "sdh.au", "sdh.j1"]
 
 
@@ -79,7 +82,7 @@ def units(program, offset, seed, trace):
     for line in lines[:-1]:
         asked, after, word, ended, data = line.split(" ")
         data = bytes.fromhex(data)
-        if asked not in ASKED or len(data) != UNIT:
+        if asked not in ASKED or len(data) != pcap.UNIT:
             stop(f"{program} wrote a unit of {len(data)} bytes: {line[:80]}")
         written.append((asked, (int(after), int(word, 16), int(ended)), data))
     return written, int(lines[-1].split(" ")[1])
@@ -98,26 +101,12 @@ def rules(offset, all_asked):
         word = (0x6800 | offset) ^ inverted
         before, offset = offset, (offset + STEP[asked]) % VALUES
         # The containers stand one behind the other, and the units carry them without a gap.
-        sent_after = sent + UNIT - first
+        sent_after = sent + pcap.UNIT - first
         ended = sent_after // CONTAINER - sent // CONTAINER
         begun = range(-(-sent // CONTAINER), -(-sent_after // CONTAINER))
         places = {first + CONTAINER * number - sent: number for number in begun}
         sent = sent_after
         yield before, (offset, word, ended), places
-
-
-def stm1(written):
-    """Frames of 9 rows of 270 bytes. A unit begins with row 4 and ends with row 3 of the next frame; of the section
-    overhead only the framing bytes are there."""
-    end_before = bytes(3 * 261)
-    for data in written:
-        carried = end_before + data[9:]
-        rows = [carried[k : k + 261] for k in range(0, 9 * 261, 261)]
-        overhead = [bytes(9)] * 9
-        overhead[0] = b"\xf6\xf6\xf6\x28\x28\x28" + bytes(3)
-        overhead[3] = data[:9]
-        yield b"".join(left + right for left, right in zip(overhead, rows))
-        end_before = carried[9 * 261 :]
 
 
 def number(text):
@@ -133,13 +122,10 @@ def wireshark(frames):
     with tempfile.TemporaryDirectory(prefix="frames-") as folder:
         path = os.path.join(folder, "units.pcap")
         with open(path, "wb") as file:
-            file.write(struct.pack("<IHHiIII", 0xA1B2C3D4, 2, 4, 0, 0, 65535, USER_0))
-            for k, frame in enumerate(frames):
-                # One frame each 125 microseconds.
-                file.write(struct.pack("<IIII", k // 8000, k % 8000 * 125, len(frame), len(frame)) + frame)
+            file.write(pcap.pcap(frames))
         # No one's own settings are read.
         own = {**os.environ, "HOME": folder, "XDG_CONFIG_HOME": folder, "WIRESHARK_CONFIG_DIR": folder, "LC_ALL": "C"}
-        command = ["tshark", "-n", "-r", path, "-o", 'uat:user_dlts:"User 0 (DLT=147)","sdh","0","","0",""', "-T", "fields"]
+        command = ["tshark", "-n", "-r", path, "-o", pcap.SETTING, "-T", "fields"]
         for field in FIELDS:
             command += ["-e", field]
         lines = run(command, env=own).splitlines()
@@ -164,7 +150,7 @@ def read_text(fields):
 def compare(program, offset, seed, trace):
     """One run: how many units, values, J1 and differences, and the steps of the offset."""
     written, made = units(program, offset, seed, trace)
-    found = wireshark(list(stm1([data for _, _, data in written])))
+    found = wireshark(list(pcap.stm1([data for _, _, data in written])))
     j1 = message(trace)
     differences, values, read, steps, total, places_before = [], 0, 0, set(), 0, None
     expected = rules(offset, [asked for asked, _, _ in written])
