@@ -176,6 +176,14 @@ def items():
     return names
 
 
+def brought(found, front):
+    """What one such line brings in: its names, or `alias.`, each to the file in front."""
+    names = [name.strip() for name in (found["names"] or "").split(",") if name.strip()]
+    if found["alias"]:
+        names.append(found["alias"] + ".")
+    return dict.fromkeys(names, front)
+
+
 def imports(text):
     """What a file's `ghost use` lines bring in of specs: a name, or `alias.`, to `crate/File`."""
     names = {}
@@ -184,11 +192,7 @@ def imports(text):
         if not specs:
             continue
         front = f"{specs['crate']}/{specs['file']}"
-        if found["alias"]:
-            names[found["alias"] + "."] = front
-        for name in (found["names"] or "").split(","):
-            if name.strip():
-                names[name.strip()] = front
+        names.update(brought(found, front))
     return names
 
 
@@ -283,11 +287,7 @@ def used(text):
     names = {}
     for found in USE.finditer(text):
         front = f"{found['crate']}/{found['file']}" if found["folder"] == "specs" else f"{found['crate']}/proofs/{found['file']}"
-        if found["alias"]:
-            names[found["alias"] + "."] = front
-        for name in (found["names"] or "").split(","):
-            if name.strip():
-                names[name.strip()] = front
+        names.update(brought(found, front))
     return names
 
 
