@@ -19,10 +19,11 @@ is named behind one must stand in its file.
 
 import os
 import re
-import subprocess
 import sys
 
-LIMIT = 60  # seconds for one script
+sys.dont_write_bytecode = True  # no folder beside the tests
+from playing import play
+
 ROOT = os.path.dirname(os.path.dirname(os.path.abspath(__file__)))
 FOLDER = os.path.join(ROOT, "lessons")
 PAGES = ("lessons/README.md", "docs/GLOSSARY.md")
@@ -73,16 +74,6 @@ class Lesson:
 
     def sinks(self):
         return [one for one in self.shown if one.fed()]
-
-
-def play(program, script, name):
-    try:
-        done = subprocess.run(program, input=script, stdout=subprocess.PIPE, stderr=subprocess.PIPE, timeout=LIMIT, check=False)
-    except (subprocess.TimeoutExpired, OSError) as error:
-        sys.exit(f"lessons.py: {name}: {error}")
-    if done.returncode != 0:
-        sys.exit(f"lessons.py: {name}: {program[0]} ended with {done.returncode}: {done.stderr.decode(errors='replace')[-2000:]}")
-    return done.stdout
 
 
 def compare(name, printed, kept, fault):

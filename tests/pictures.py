@@ -16,7 +16,6 @@ the unit as fed, worked out from the script and the source's printed words; J1 t
 import os
 import re
 import struct
-import subprocess
 import sys
 import tempfile
 import xml.etree.ElementTree as ET
@@ -26,8 +25,8 @@ ROOT = os.path.dirname(os.path.dirname(os.path.abspath(__file__)))
 sys.path.insert(0, os.path.join(ROOT, "tools"))
 import pcap  # for the setting by which tshark knows the link type
 import timeline
+from playing import play, run
 
-LIMIT = 120  # seconds for one run of one program
 TIMELINE, PCAP = os.path.join(ROOT, "tools", "timeline.py"), os.path.join(ROOT, "tools", "pcap.py")
 KEPT = {"steps.svg": "examples/steps.bench", "worst.svg": "examples/settling/worst.bench"}
 NAMES = "dUNEQ dTIM dPLM dRDI SSF TSF AIS RDI cAIS cLOP cSSF cUNEQ cTIM cRDI cPLM".split(" ")
@@ -43,20 +42,6 @@ def fault(what, text):
     failures.setdefault(what, []).append(text)
     if len(failures[what]) <= SHOWN:
         print(f"pictures.py: {what}: {text}")
-
-
-def run(command, given=b""):
-    try:
-        return subprocess.run(command, input=given, stdout=subprocess.PIPE, stderr=subprocess.PIPE, timeout=LIMIT, check=False)
-    except (OSError, subprocess.TimeoutExpired) as error:
-        sys.exit(f"pictures.py: {command[0]} cannot be run: {error}")
-
-
-def play(bench, script):
-    done = run(bench, script)
-    if done.returncode != 0:
-        sys.exit(f"pictures.py: {bench[0]} ended with {done.returncode}: {done.stderr.decode(errors='replace')[-2000:]}")
-    return done.stdout
 
 
 SPACES = "20" * 15
@@ -560,7 +545,7 @@ def check_bad_input(bench, folder):
         if done.returncode != status or words not in said or "Traceback" in said or done.stdout or os.path.exists(out):
             fault("bad input", f"{what}: status {done.returncode}, not {status} with `{words}`: {said[-300:]}")
 
-    printed = play(bench, open(good, "rb").read())
+    printed = play(bench, open(good, "rb").read(), good)
     for what, options, given, status, words in (
         ("nothing", [], b"", 1, "no unit in it"),
         ("other lines", [], b"parity 00\ncat ok 1\n", 1, "no unit in it"),
@@ -600,7 +585,7 @@ def check_kept(bench):
         fault("docs/pictures", f"has {sorted(os.listdir(folder))}, not {sorted(KEPT)}")
     for name, script in KEPT.items():
         path = os.path.join(ROOT, script)
-        made = run([sys.executable, TIMELINE, "--script", path], play(bench, open(path, "rb").read())).stdout
+        made = run([sys.executable, TIMELINE, "--script", path], play(bench, open(path, "rb").read(), path)).stdout
         kept = os.path.join(folder, name)
         if not os.path.exists(kept) or open(kept, "rb").read() != made:
             fault(f"docs/pictures/{name}", f"is not what timeline.py makes of {script}")
@@ -613,7 +598,7 @@ def check_kept(bench):
 
 def shown(bench, script):
     """The line's bytes at each `sink`, by a `show` put before it."""
-    printed = play(bench, b"".join((b"show\n" if line == b"sink" else b"") + line + b"\n" for line in script.split(b"\n")))
+    printed = play(bench, b"".join((b"show\n" if line == b"sink" else b"") + line + b"\n" for line in script.split(b"\n")), "a script with `show`")
     lines = printed.decode("ascii").split("\n")
     return [bytes.fromhex(before[5:]) for before, line in zip(lines, lines[1:]) if re.match(r"ok |refused ", line)]
 
@@ -680,10 +665,7 @@ def check_tshark(header, captures, wanted, folder):
     command = ["tshark", "-n", "-r", file, "-o", pcap.SETTING, "-T", "fields"]
     for field in ("sdh.h1", "sdh.h2", "sdh.au", "sdh.j1"):
         command += ["-e", field]
-    try:
-        done = subprocess.run(command, stdout=subprocess.PIPE, stderr=subprocess.PIPE, timeout=LIMIT, check=False, env=own)
-    except (OSError, subprocess.TimeoutExpired) as error:
-        sys.exit(f"pictures.py: tshark cannot be run: {error}")
+    done = run(command, env=own)
     lines = done.stdout.decode("ascii").splitlines()
     found = [[int(text, 0) if text else None for text in line.split("\t")] for line in lines]
     if done.returncode != 0 or len(found) != len(wanted):
@@ -715,7 +697,7 @@ def main():
         for name, path in scripts(folder):
             with open(path, "rb") as file:
                 data = file.read()
-            printed = play(bench, data)
+            printed = play(bench, data, name)
             script = data.decode("utf-8", errors="replace").split("\n")
             calls = calls_of(script, printed.decode("ascii").splitlines())
             check_picture(name, path, printed, script, calls, folder)

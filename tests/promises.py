@@ -90,14 +90,16 @@ def name_at(file, line):
 
 @functools.cache
 def calls():
-    """The items of its own file that each item of the code names."""
+    """The items of its own file that each item of the code comes to: functions that it calls, constants and types that it names."""
     found = {}
     for file, starts in by_file().items():
         lines = names.text_of(names.ROOT / file).split("\n")
         here = {name.split("::")[-1]: name for _, name in starts if "::" in name}
         for (first, name), (following, _) in zip(starts, starts[1:] + [(len(lines) + 1, "")]):
             code = "\n".join(line.split("//")[0] for line in lines[first - 1 : following - 1])
-            found[name] = {here[word] for word in re.findall(r"\w+", code) if word in here}
+            # a small word that is not called is a parameter, whatever function has its name
+            named = re.findall(r"\b(?:[a-z]\w*(?=\()|[A-Z]\w*)", code)
+            found[name] = {here[word] for word in named if word in here}
     return found
 
 

@@ -17,10 +17,11 @@ Where BENCH, the proved bench, is given, it must print what SECOND prints.
 
 import os
 import re
-import subprocess
 import sys
 
-LIMIT = 60  # seconds for one run of one program
+sys.dont_write_bytecode = True  # no folder beside the tests
+from playing import play
+
 ROOT = os.path.dirname(os.path.dirname(os.path.abspath(__file__)))
 FOLDER = os.path.join(ROOT, "examples", "settling")
 MOST = 66
@@ -292,16 +293,6 @@ def compare(expected, seen, fault):
         fault(seen.lines[0], "a hypothesis is dropped, and yet nothing breaks")
 
 
-def play(command, script, name):
-    try:
-        done = subprocess.run(command, input=script, stdout=subprocess.PIPE, stderr=subprocess.PIPE, timeout=LIMIT, check=False)
-    except (subprocess.TimeoutExpired, OSError) as error:
-        sys.exit(f"settling.py: {name}: {error}")
-    if done.returncode != 0:
-        sys.exit(f"settling.py: {name}: {command[0]} ended with {done.returncode}: {done.stderr.decode(errors='replace')[-2000:]}")
-    return done.stdout.decode(errors="replace").splitlines()
-
-
 def main():
     if len(sys.argv) not in (2, 3):
         sys.exit("usage: settling.py SECOND [BENCH]")
@@ -324,9 +315,9 @@ def main():
         script = text.decode().splitlines()
         if not script[0].startswith("# "):
             complain(f"{name}.bench:1", "the first line is no comment")
-        printed = play([second, "bench"], text, name)
+        printed = play([second, "bench"], text, name).decode(errors="replace").splitlines()
         if bench:
-            proved = play(bench, text, name)
+            proved = play(bench, text, name).decode(errors="replace").splitlines()
             for place, (a, b) in enumerate(zip(proved, printed), 1):
                 if a != b:
                     complain(name, f"printed line {place}: the bench says {a}, the second program {b}")

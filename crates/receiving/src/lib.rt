@@ -1,7 +1,7 @@
 // What a unit that ends normal leaves: the containers that ended in it, watched one after the other, and the bytes that are held.
-// The definitions stand in specs/Receiving.antt. The sink rests on this crate.
+// The definitions stand in specs/Receiving.antt, the steps of the code between them in specs/Turns.antt. The sink rests on this crate.
 ghost use mathlib.Core.Path.{_≡_};
-ghost use mathlib.Core.Bool.{true, cond};
+ghost use mathlib.Core.Bool.{cond};
 ghost use Prim.Native.Nat.{_+_, _*_, _<_, _≤_};
 ghost use lib.ListN.{length};
 ghost use Rattle.shape.specs.Shape.{Fit};

@@ -8,3 +8,5 @@ pub mod Signal
 pub mod Every
 pub mod Settled
 pub mod Host
+pub mod Opened
+pub mod Example
