@@ -6,6 +6,7 @@ Usage: names.py functions|items|definitions|theorems|parts|edits|cases|cited    
 As a module, each of these answers with a dictionary in the order of the files:
 
     public_functions()   `crate::name`            -> Place     a library's `pub fn` and `pub extern "C" fn`; a program has none
+    signatures()         `crate::name`            -> its parameters, each a name and a type, and its result; of the public functions
     items()              `crate::name`            -> Place     every function, constant, struct and enum, private ones too; of a module `crate::module::name`
     definitions()        `crate/File.name`        -> Place     the top-level names of crates/*/specs/*.antt
     theorems()           `crate/proofs/File.name` -> Place     those of crates/*/proofs/*.antt, but not of a function's own Proof.antt
@@ -16,9 +17,10 @@ As a module, each of these answers with a dictionary in the order of the files:
     cited()              the same of the public functions alone
     asking()             the functions, `crate::name`, that have a requires
     uses()               definition or theorem    -> the definitions and theorems that its own text names
+    strays()             faults: whatever else is public and a function in a library, as a method, where no page could name it
 
 A Place is a file, from the repository's root, a line, and whether the name is public there. A fault of the text that stops the reading
-(a contract that does not close, a definition named twice) is raised as Unreadable; the program then exits with 2.
+(a contract that does not close, a definition named twice, a comment of another kind than `//` and `--`) is raised as Unreadable; the program then exits with 2.
 """
 import collections
 import functools
@@ -62,13 +64,21 @@ SKIPPED = ("use ", "pub use ", "pub mod ", "unfolding ", "--")
 Name = collections.namedtuple("Name", "name line public owner heads")
 
 
+def antt_text(path):
+    """The text of an antt file. Its comments are those of a line's rest, so that a name at a line's start is never one."""
+    text = text_of(path)
+    if "{-" in text:
+        raise Unreadable(f"{shown(path)}:{line_of(text, text.index('{-'))}: a comment in braces; write -- before each line of it")
+    return text
+
+
 def antt_names(path):
     """The names of a file. The owner is the record or data type of a part, else nothing; the heads are those of the modules it stands in.
 
     A module's body counts as the file's own, whatever its depth; what stands deeper than the body that holds it is a continuation.
     """
     bodies = [(-1, "module", "", 0)]  # for each open body: the indent of its head, its form, its head or name, the indent of what is in it
-    for number, line in enumerate(text_of(path).split("\n"), 1):
+    for number, line in enumerate(antt_text(path).split("\n"), 1):
         body = line.lstrip(" ")
         if not body or body.startswith("--"):
             continue
@@ -141,13 +151,20 @@ IMPORT = re.compile(r"^ghost use (?P<path>[^\s;{]+?)(?:\.\{(?P<names>[^}]*)\}| a
 SPECS = re.compile(r"^Rattle·(?P<crate>\w+?)(?:·specs)?\.specs\.(?P<file>[^.]+)$")
 CLAUSE = re.compile(r"\b(?P<word>requires|ensures)\b[^{\n]*\{")
 BOUND = re.compile(r"λ ([^.⌜]*)\.\s")
+# a text, a character, a comment of a line's rest, the begin of one of the other kind
+LITERAL_OR_COMMENT = re.compile(r'"(?:\\.|[^"\\\n])*"|\'(?:\\(?:x\w\w|.)|[^\'\\\n])\'|//[^\n]*|/\*')
+# `pub` and, with whatever words between, `fn`; a field has a colon between, any other item a brace, `=` or `;`
+PUBLIC = re.compile(r"\bpub\b(?:[^;{}=:]|::)*?\bfn\b(?:\s+(?P<name>\w+))?")
+
+Signature = collections.namedtuple("Signature", "parameters result")
 
 
-def rt_files():
+def rt_files(files="src/*.rt"):
     """The sources of the libraries, as (crate, path). A crate with a main.rt is a program: its functions are its own."""
-    for path in sorted(ROOT.glob("crates/*/src/*.rt")):
-        if not (path.parent / "main.rt").exists():
-            yield path.parts[-3], path
+    for path in sorted(ROOT.glob(f"crates/*/{files}")):
+        crate = path.relative_to(ROOT / "crates").parts[0]
+        if not (ROOT / "crates" / crate / "src/main.rt").exists():
+            yield crate, path
 
 
 def line_of(text, at):
@@ -155,14 +172,73 @@ def line_of(text, at):
 
 
 @functools.cache
+def code(path):
+    """The text of a source with blanks for its comments, and for the braces in its literals: what stands in it stands at its place."""
+    text = text_of(path)
+
+    def blanked(found):
+        if found[0] == "/*":
+            raise Unreadable(f"{shown(path)}:{line_of(text, found.start())}: a comment of more than a line; write // before each line of it")
+        return " " * len(found[0]) if found[0].startswith("//") else re.sub("[{}]", " ", found[0])
+
+    return LITERAL_OR_COMMENT.sub(blanked, text)
+
+
+def in_braces(text, at):
+    """Whether a place stands in braces: those of an impl, a module or a function."""
+    return text.count("{", 0, at) > text.count("}", 0, at)
+
+
+def public_found():
+    """The public functions that a page can name, those of lib.rt itself: each name with its file, the code there and where it stands in it."""
+    for crate, path in rt_files("src/lib.rt"):
+        text = code(path)
+        for found in FUNCTION.finditer(text):
+            if found["public"] and not in_braces(text, found.start()):
+                yield f"{crate}::{found['name']}", path, text, found
+
+
+@functools.cache
 def public_functions():
     names = {}
-    for crate, path in rt_files():
-        text = text_of(path)
-        for found in FUNCTION.finditer(text):
-            if found["public"]:
-                put(names, f"{crate}::{found['name']}", Place(shown(path), line_of(text, found.start()), True))
+    for name, path, text, found in public_found():
+        put(names, name, Place(shown(path), line_of(text, found.start()), True))
     return names
+
+
+@functools.cache
+def strays():
+    faults = []
+    for crate, path in rt_files("**/*.rt"):
+        text = code(path)
+        for found in PUBLIC.finditer(text):
+            place = Place(shown(path), line_of(text, found.start()), True)
+            if public_functions().get(f"{crate}::{found['name']}") != place:
+                faults.append(f"{place.file}:{place.line}: `{' '.join(found[0].split())}` is public, and does not stand in lib.rt, at a line's start and in no braces, "
+                              "as `pub fn` or `pub extern \"C\" fn`: no page has a place for it")
+    return faults
+
+
+def signature(text, at, path):
+    """The parameters and the result of the function whose name ends at `at`."""
+    pieces, depth, at = [""], 1, text.index("(", at) + 1
+    while depth:
+        letter, at = text[at], at + 1
+        depth += (letter in "([{<") - (letter in ")]}>")
+        if letter == "," and depth == 1:
+            pieces.append("")
+        elif depth:
+            pieces[-1] += letter
+    parameters = [re.fullmatch(r"(?:mut )?(\w+)\s*:\s*(\S.*)", piece.strip(), re.S) for piece in pieces if piece.strip()]
+    if None in parameters:
+        raise Unreadable(f"{shown(path)}:{line_of(text, at)}: a parameter that is no name with its type")
+    result = re.compile(r"\s*->\s*([^{\n]*)").match(text, at)
+    return Signature([found.groups() for found in parameters], result[1].strip() if result else "")
+
+
+@functools.cache
+def signatures():
+    return {name: signature(text, found.end(), path) for name, path, text, found in public_found()}
 
 
 @functools.cache

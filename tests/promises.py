@@ -6,11 +6,13 @@ Usage: promises.py [PAGE]     PAGE is docs/PROMISES.md where none is given.
 Every public function of a library stands in one row of a table of five columns: function, promise, definition, one outcome, rules out. Of each row:
 
     definition    names every definition that the function's contract cites (a contract that cites none says "none")
-    one outcome   names a theorem of crates/promises/proofs that reads this function's own contract; the exceptions are listed below
+    one outcome   names theorems of crates/promises/proofs that read this function's own contract, and of its outcome the whole answer and every
+                  buffer lent for writing, each by itself; the one exception is written out below
     rules out     names two edits or more of the function's own crate, each of which changes the function, or what it rests on there: the
                   code that it calls or the definitions that its contract cites; where it changes a definition, the word stands
                   beside it. A crate for tests may have fewer.
 
+Every theorem of crates/promises/proofs whose name ends in `-determined` stands in a row, and `Determines` says there what is written out below.
 Whatever else the page sets in backquotes as a name (`crate::function`, `crate/label`, `crate/File.name`, `a-theorem`) must exist. What is
 wrong is printed with its line, then a summary; the status is 1 where anything is, and 2 where the text cannot be read.
 """
@@ -26,15 +28,46 @@ PAGE = "docs/PROMISES.md"
 COLUMNS = ["Function", "Promise", "Definition", "One outcome", "Rules out"]
 FOR_TESTS = "probe"  # crates whose names begin so
 PROMISES = "promises/proofs/"
-# functions whose contracts the check makes no `Post` of: the theorem speaks of the definition that the contract cites
-EXCEPTIONS = {"view::of": "Views"}
+# functions whose contracts the check makes no `Post` of: what the theorem says instead, of the definition that the contract cites
+EXCEPTIONS = {
+    "view::of": "(done unit : List ℕ) (completed inside : Bool) (place size : ℕ) (first second first′ second′ : List ℕ) "
+    "→ Views done unit completed inside place size first second → Views done unit completed inside place size first′ second′ "
+    "→ (first ≡ first′) × (second ≡ second′)",
+}
+# what all the other theorems say, of a function's contract `Post` and of a reading `f` of its outcome
+DETERMINES = (
+    "abbrev pub Determines : {O : Type 0} (n : ℕ) (ps : List (PK n)) (r : RK n) "
+    "→ Out n ps r → ((κs : Lfts n) → resT r κs .Denot → AtExit (endedOf n ps r) κs → O) → Type 0 "
+    "Determines n ps r Post f = (κs : Lfts n) (a : Dens κs ps) (x y : resT r κs .Denot) (s t : AtExit (endedOf n ps r) κs) "
+    "→ Post κs a x s → Post κs a y t → f κs x s ≡ f κs y t"
+)
+# where the words of these have their meaning
+MEANINGS = {
+    "Determines": "Rattle.promises.proofs.Determined",
+    "Views": "Rattle.view.specs.View",
+    "now": "denote.Ref",
+    "_≡_": "mathlib.Core.Path",
+    **dict.fromkeys(["Out", "endedOf", "PK", "RK", "Dens", "resT"], "borrow.Fn.Kinds"),
+    "Lfts": "contract.Lifetimes",
+    "AtExit": "denote.Triple.Clauses",
+}
 
 FUNCTION = re.compile(r"[a-z_0-9]+::[a-z_0-9]+")
 EDIT = re.compile(r"[a-z_0-9]+/[a-z_0-9]+")
 DEFINITION = re.compile(r"[a-z_0-9]+/(?:proofs/)?[A-Z]\w*\.\S+")
 THEOREM = re.compile(r"[a-z0-9]+(?:-[a-z0-9]+)+")
 
+# up to the next line that begins with a name
+STATED = re.compile(r"^pub (\S+) :(.*(?:\n(?:[ \t].*|--.*)?)*)", re.M)
+READING = re.compile(r"Determines \{O = [^{}]+\} \d+ (?P<ps>\S+)\.ps (?P<r>\S+)\.r (?P<post>\S+)\.Post \(λ κs r e\. (?P<read>.*)\)")
+GATHERED = re.compile(r"record \{ (.*) \}")
+# the answer, the bytes of one that is a slice, what a parameter has at exit
+READ = re.compile(r"r|now r|now \(e(?: \.1)* \.0\)")
+# a type of the code: whether it is lent, for writing, and what is
+LENT = re.compile(r"(?P<lent>&\s*(?:'\w+\s+)?(?P<writing>mut\b)?)?(?P<what>.*)", re.S)
+
 Row = collections.namedtuple("Row", "line function definition outcome rules")
+Stated = collections.namedtuple("Stated", "says aliases place")
 
 
 # ---- the page
@@ -135,17 +168,74 @@ def changed(edit):
 
 # ---- theorems
 
+def one_line(text):
+    return " ".join(text.split())
+
+
+def proofs():
+    """The files of crates/promises/proofs, each with its text."""
+    for path in sorted((names.ROOT / "crates/promises/proofs").glob("*.antt")):
+        yield path, names.antt_text(path)
+
+
 @functools.cache
 def statements():
-    """The theorems of crates/promises/proofs by their short names: the functions whose contracts each reads, and its words."""
+    """The theorems of crates/promises/proofs by their short names: what each says, and what the aliases of its file are, as `crate::function Kinds`."""
     found = {}
-    for path in sorted((names.ROOT / "crates/promises/proofs").glob("*.antt")):
-        text = names.text_of(path)
-        read = dict(re.findall(r"^use Rattle·(\w+\.proofs\.\w+)\.Reads as (\S+)", text, re.M))
-        aliases = {alias: "::".join(module.split(".proofs.")) for module, alias in read.items()}
-        for name, type_of in re.findall(r"^pub (\S+) : (.*(?:\n    .*)*)", text, re.M):
-            found[name] = ({aliases[alias] for alias in re.findall(r"(\S+)\.Post\b", type_of) if alias in aliases}, set(re.split(r"\W+", type_of)))
+    for path, text in proofs():
+        aliases = {}
+        for module, alias in re.findall(r"^(?:pub )?use (\S+) as (\S+)$", text, re.M):
+            if alias in aliases:
+                raise names.Unreadable(f"{names.shown(path)}: two modules are named {alias}")
+            aliases[alias] = re.sub(r"^Rattle·(\w+)\.proofs\.(\w+)\.(Kinds|Reads)$", r"\1::\2 \3", module)
+        for stated in STATED.finditer(text):
+            place = names.Place(names.shown(path), names.line_of(text, stated.start()), True)
+            if stated[1] in found:
+                raise names.Unreadable(f"{place.file}:{place.line}: there are two theorems {stated[1]}")
+            found[stated[1]] = Stated(one_line(stated[2]), aliases, place)
     return found
+
+
+def at_exit(place):
+    """How a theorem reads the parameter at a place, counted from 0, as the call leaves it."""
+    return f"now (e{' .1' * place} .0)"
+
+
+def outcome_of(function):
+    """What a function leaves, as (what it is, the readings that have all of it): its answer, and what was lent for writing."""
+    parameters, result = names.signatures()[function]
+    if result not in ("", "()"):
+        yield "the answer", ["now r", "r"] if LENT.match(result)["lent"] else ["r"]
+    for place, (name, kind) in enumerate(parameters):
+        if LENT.match(kind)["writing"]:
+            yield f"what `{name}` has at exit", [at_exit(place)]
+
+
+def hidden(function):
+    """The types of a function's parameters and of its answer in which something is lent: what it leaves there is read by no theorem of this form."""
+    parameters, result = names.signatures()[function]
+    found = [kind for kind in [*(kind for _, kind in parameters), result] if re.search("[&']", LENT.match(kind)["what"])]
+    return found + [result] * bool(LENT.match(result)["writing"])
+
+
+def readings(theorem, function):
+    """What a theorem reads of the outcome of a function, and a fault, or nothing."""
+    stated = statements().get(theorem)
+    if not stated:
+        return [], f"{theorem} is no public theorem of {PROMISES}"
+    found = READING.fullmatch(stated.says)
+    if not found:
+        return [], f"{theorem} is not of the form Determines {{O = ..}} n F.ps F.r F-promise.Post (λ κs r e. ..)"
+    for part, kind in (("ps", "Kinds"), ("r", "Kinds"), ("post", "Reads")):
+        if stated.aliases.get(found[part]) != f"{function} {kind}":
+            what = "its contract" if part == "post" else f"its .{part}"
+            return [], f"{theorem} does not read {what}: {found[part]} is {stated.aliases.get(found[part], 'unknown')}, not {function} {kind}"
+    gathered = GATHERED.fullmatch(found["read"])
+    read = [field.partition("=")[2].strip() for field in gathered[1].split(";")] if gathered else [found["read"]]
+    other = next((reading for reading in read if not READ.fullmatch(reading)), None)
+    if other is not None:
+        return read, f"{theorem} reads `{other}`, which is neither the whole answer nor all that a buffer has at exit"
+    return read, None
 
 
 # ---- what is held
@@ -158,11 +248,47 @@ def check_outcome(row, say):
     theorems = matching(THEOREM, row.outcome)
     if not theorems:
         say(row.line, f"{row.function}: no theorem is named")
+        return
+    if row.function in EXCEPTIONS:
+        for theorem in theorems:
+            stated = statements().get(theorem)
+            if "exception" not in row.outcome or not stated or stated.says != EXCEPTIONS[row.function]:
+                say(row.line, f"{row.function}: {theorem} of {PROMISES} is not the exception that is written out in tests/promises.py")
+        return
+    read = set()
     for theorem in theorems:
-        functions, words = statements().get(theorem, (set(), set()))
-        excepted = EXCEPTIONS.get(row.function)
-        if row.function not in functions and not (excepted and excepted in words and "exception" in row.outcome):
-            say(row.line, f"{row.function}: {theorem} of {PROMISES} does not read its contract")
+        found, fault = readings(theorem, row.function)
+        read.update(found)
+        if fault:
+            say(row.line, f"{row.function}: {fault}")
+    named, left = ", ".join(theorems), list(outcome_of(row.function))
+    for what, ways in left:
+        if read.isdisjoint(ways):
+            say(row.line, f"{row.function}: {what}, `{ways[0]}`, is not read by {named}")
+    for reading in sorted(read - {way for _, ways in left for way in ways}):
+        if reading.startswith("now (e"):
+            say(row.line, f"{row.function}: {named} reads `{reading}`, where nothing is lent for writing")
+    for kind in hidden(row.function):
+        say(row.line, f"{row.function}: what it leaves in {kind} is read by no theorem of this form")
+
+
+def check_theorems(seen, faults):
+    """Each theorem stands in a row, so that it is held to its function; and says what it should."""
+    for name, stated in statements().items():
+        if name.endswith("-determined") and name not in seen:
+            faults.append(f"{stated.place.file}:{stated.place.line}: {name} stands in no row of {PAGE}")
+    for path, text in proofs():
+        own = dict(names.own_texts(path))
+        brought = collections.defaultdict(set)
+        for module, items in re.findall(r"^(?:pub )?use (\S+)\.\{([^}]*)\}", text, re.M):
+            for item in items.split(","):
+                brought[item.split()[-1]].add((module, item.split()[0]))
+        for word, module in MEANINGS.items():
+            if word == "Determines" and path.stem == "Determined":
+                if one_line(own.get(word, "")) != DETERMINES:
+                    faults.append(f"{names.shown(path)}: {word} does not say what is written out in tests/promises.py")
+            elif word in own or not brought[word] <= {(module, word)}:
+                faults.append(f"{names.shown(path)}: {word} is not that of {module}")
 
 
 def check_definition(row, say):
@@ -222,20 +348,23 @@ def check_page(page, faults):
     def say(line, what):
         faults.append(f"{page}:{line}: {what}")
 
+    faults.extend(names.strays())
     found = check_names(lines, say)
-    seen = {}
+    seen, theorems = {}, set()
     for row in rows(lines, say):
         if row.function not in names.public_functions():
             continue  # said above
         if row.function in seen:
             say(row.line, f"{row.function} stands at line {seen[row.function]} too")
         seen[row.function] = row.line
+        theorems.update(matching(THEOREM, row.outcome))
         check_outcome(row, say)
         check_definition(row, say)
         check_rules(row, say)
     for function, place in names.public_functions().items():
         if function not in seen:
             faults.append(f"{place.file}:{place.line}: {function} stands in no row of {page}")
+    check_theorems(theorems, faults)
     return len(seen), found
 
 

@@ -20,7 +20,8 @@ a pointer word or a trace of four characters, each 0 to 9 or A to F. Checked is 
 - every definition of a row is cited, itself or by way of other definitions, by a function or a theorem of that row;
 - a third cell without a name begins with one of the words of UNHELD, which say plainly that no proof holds the rule;
 - the sections are those of SECTIONS, in that order;
-- every public function, but of the crates of TESTS, stands in a table, and so does every definition that the contract of one of these cites;
+- every public function, but of the crates of TESTS, stands in a table, and so does every definition that the contract of one of these cites; nothing
+  else that is public is a function;
 - each of these functions has a theorem in crates/promises/proofs, named after it, that its promise allows one outcome;
 - no function of the section on the demands, the card's calls, has a requires.
 """
@@ -204,6 +205,8 @@ def check_sections(lines, faults):
 def check_complete(standing, faults):
     """Every public function, and every definition that its contract cites."""
     theorems = {name.rpartition(".")[2] for name in names.theorems() if name.startswith("promises/")}
+    for stray in names.strays():
+        faults.add(None, stray)
     for name, place in names.public_functions().items():
         crate, _, own = name.replace("_", "-").partition("::")
         if name.split("::")[0] in TESTS:
