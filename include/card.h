@@ -2,11 +2,23 @@
  * reading on bytes. Link with libcard.a (`rt staticlib card` writes it to
  * target/staticlib/).
  *
- * Each function takes a pointer and a length, reads those bytes and nothing
- * else, writes nothing, keeps nothing, and always returns. None of them
- * refuses: every length has an answer, given below. The pointer must be to
- * `length` readable bytes; where `length` is 0 it is not read through, and
- * may be any pointer but NULL.
+ *     uint8_t  card_parity(const uint8_t *bytes, size_t length);
+ *     bool     card_trace_check(const uint8_t *bytes, size_t length);
+ *     uint16_t card_word_reading(const uint8_t *bytes, size_t length);
+ *
+ * Each takes a pointer and a length, reads those bytes and nothing else,
+ * writes nothing, keeps nothing, and always returns. None of them refuses:
+ * every length has an answer, given below. The pointer must be to `length`
+ * readable bytes. Where `length` is 0 it is not read through, and may be any
+ * pointer, NULL too: (NULL, 0) is no bytes.
+ *
+ * NULL with another length is a fault of the host's. It is taken as no bytes,
+ * so that nothing is read through it; do not count on the answer.
+ *
+ * The library itself takes no NULL. So each of the three names is, in a source
+ * that includes this header, an inline function of the host's own, which lends
+ * the library one byte and the length 0 where it is given NULL. A call from
+ * another language, which sees the library's own function, has to do the same.
  */
 #ifndef CARD_H
 #define CARD_H
@@ -34,6 +46,30 @@ bool card_trace_check(const uint8_t *bytes, size_t length);
  * The value is the word's ten bits, in range (0 to 782) or not.
  * Of any length but 2: 0. (So is 00 00 with SS 00: a NDF that is neither.) */
 uint16_t card_word_reading(const uint8_t *bytes, size_t length);
+
+/* The same for a pointer that may be NULL. */
+
+static const uint8_t card_host_none = 0; /* lent for no bytes, and never read */
+
+static inline uint8_t card_host_parity(const uint8_t *bytes, size_t length)
+{
+    return bytes != NULL ? card_parity(bytes, length) : card_parity(&card_host_none, 0);
+}
+
+static inline bool card_host_trace_check(const uint8_t *bytes, size_t length)
+{
+    return bytes != NULL ? card_trace_check(bytes, length) : card_trace_check(&card_host_none, 0);
+}
+
+static inline uint16_t card_host_word_reading(const uint8_t *bytes, size_t length)
+{
+    return bytes != NULL ? card_word_reading(bytes, length) : card_word_reading(&card_host_none, 0);
+}
+
+/* Names, and not calls, so that a pointer to one of the three is safe too. */
+#define card_parity card_host_parity
+#define card_trace_check card_host_trace_check
+#define card_word_reading card_host_word_reading
 
 #ifdef __cplusplus
 }
