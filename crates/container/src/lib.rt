@@ -6,7 +6,7 @@ ghost use lib.ListN.{length};
 ghost use Rattle.shape.specs.Shape.{au4, Fit};
 ghost use Rattle.refusals.specs.Refusals.{answerOf};
 ghost use Rattle.container.specs.Container.{rowsOf, stripOf};
-ghost use Rattle.container.specs.Payload.{payloadFaults, Hands};
+ghost use Rattle.container.specs.Payload.{payloadFaults, HandsAs, Hands};
 use refusals::Answer;
 use refusals::Refusal;
 use shape::Shape;
@@ -68,7 +68,7 @@ fn payload_answer(shape: Shape, container: usize, payload: usize) -> Answer
 // The payload of a container of any shape, all ones in its place where `ais` asks for it.
 fn hand(shape: Shape, container: &[u8], ais: bool, payload: &mut [u8]) -> Answer
     requires { ⌜ Fit shape ⌝ }
-    ensures { λ r. ⌜ Hands shape (now (container .entry)) ais (now (payload .entry)) r (now (payload .exit)) ⌝ }
+    ensures { λ r. ⌜ HandsAs shape (now (container .entry)) ais (now (payload .entry)) r (now (payload .exit)) ⌝ }
 {
     match payload_answer(shape, container.len(), payload.len()) {
         Answer::Refused(x) => {

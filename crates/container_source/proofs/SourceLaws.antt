@@ -1,5 +1,5 @@
 -- What a call of the source has to show at each of its ends, and what a call with nothing wrong has shown. Assumes nothing.
-use mathlib.Core.Path.{_≡_}
+use mathlib.Core.Path.{_≡_, refl, ap, _∙_}
 use mathlib.Core.Bool.{Bool, true, false, not}
 use mathlib.Core.List.{List}
 use Prim.Native.Nat.{ℕ, _+_, _*_, _-_, _%_, _<_, _≤_}
@@ -9,17 +9,17 @@ use lib.ListN.{length}
 use borrow.Author.Tests.{lt-ltb, le-ltb, eq-eqb, ne-eqb, eqb-true, not-false, ltb-false}
 use Rattle.parity.specs.Parity.{parityOf}
 use Rattle.settings.specs.Settings.{labelRefused, traceRefused}
-use Rattle.refusals.specs.Refusals.{due, answerOf}
+use Rattle.refusals.specs.Refusals.{Fault, due, numberOf, says, answerSays, answerOf}
 use Rattle.refusals.specs.declared.Refusal.{Refusal}
 use Rattle.refusals.specs.declared.Refusal.the-variants as wrong
 use Rattle.refusals.specs.declared.Answer.{Answer}
 use Rattle.refusals.specs.declared.Answer.the-variants.{Done, Refused}
-use Rattle.refusals.proofs.Wrong.{due-none, due-false, none-wrong, outcome-done, outcome-refused}
+use Rattle.refusals.proofs.Wrong.{due-none, due-false, none-wrong, outcome-done, outcome-refused, Numbered, numbered-row, numbered-last, outcome-said}
 use Rattle.shape.specs.Shape.{Fit}
 use Rattle.shape.specs.declared.Shape.{Shape}
 use Rattle.container.specs.Container.{payloadSize, rowsOf}
 use Rattle.container_source.specs.Overhead.{overheadOf}
-use Rattle.container_source.specs.Source.{sendFaults, containerSent, stateAfter, containerSource, Sends}
+use Rattle.container_source.specs.Source.{sendFaults, containerSent, stateAfter, Outcome, containerSource, SendsAs, Sends}
 use Rattle.container_source.specs.declared.State.{State}
 use Rattle.container_source.specs.declared.Given.{Given}
 use Rattle.container_source.specs.declared.Sent.{Sent}
@@ -36,7 +36,7 @@ pub record Sendable (s : Shape) (place label : ℕ) (trace : List ℕ) (payload 
 -- ---- the answer, by the tests that led to it
 
 module _ (s : Shape) (place label : ℕ) (trace : List ℕ) (payload container violations : ℕ) where
-  abbrev faults : List Refusal
+  abbrev faults : List (Fault Refusal)
   faults = sendFaults s place label trace payload container violations
 
   pub answer-state : 15 < place → Refused wrong.State ≡ answerOf faults
@@ -79,12 +79,12 @@ module _ (s : Shape) (place label : ℕ) (trace : List ℕ) (payload container v
   pub sendable : (a : Answer) → a ≡ answerOf faults → a ≡ Done → Sendable s place label trace payload container violations
   unfolding sendFaults
   sendable a e d =
-      let p1 = due-none (ltb 15 place) wrong.State _ (none-wrong faults cc) in
-      let p2 = due-none (labelRefused label) wrong.Label _ (p1 .1) in
-      let p3 = due-none (traceRefused trace) wrong.Trace _ (p2 .1) in
-      let p4 = due-none (not (eqb payload (payloadSize (s .columns)))) wrong.Payload _ (p3 .1) in
-      let p5 = due-none (not (eqb container (s .size))) wrong.Container _ (p4 .1) in
-      let p6 = due-false (ltb 8 violations) wrong.Violations (p5 .1) in
+      let p1 = due-none (ltb 15 place) _ _ (none-wrong faults cc) in
+      let p2 = due-none (labelRefused label) _ _ (p1 .1) in
+      let p3 = due-none (traceRefused trace) _ _ (p2 .1) in
+      let p4 = due-none (not (eqb payload (payloadSize (s .columns)))) _ _ (p3 .1) in
+      let p5 = due-none (not (eqb container (s .size))) _ _ (p4 .1) in
+      let p6 = due-false (ltb 8 violations) _ (p5 .1) in
       record {
         place-is = ltb-false 15 place (p1 .0);
         label-is = p2 .0;
@@ -102,7 +102,7 @@ module _ (s : Shape) (place label : ℕ) (trace : List ℕ) (payload container v
 
 module _ (s : Shape) (state : State) (g : Given) (trace payload before : List ℕ) (a : Answer) (is : a ≡ answerOf (sendFaults s (state .place) (g .label) trace (length payload) (length before) (g .violations))) where
   -- refused: the state and the container as they were
-  pub send-refused : (x : Refusal) → a ≡ Refused x → Sends s state g trace payload before (record { answer = Refused x; state = state }) before
+  pub send-refused : (x : Refusal) → a ≡ Refused x → SendsAs s state g trace payload before (record { answer = Refused x; state = state }) before
   unfolding containerSource
   send-refused x e =
       rw (outcome-refused (sendFaults s (state .place) (g .label) trace (length payload) (length before) (g .violations)) _ _ x cc)
@@ -114,13 +114,28 @@ module _ (s : Shape) (state : State) (g : Given) (trace payload before : List �
       → overhead ≡ overheadOf state g trace
       → after ≡ rowsOf (s .columns - 1) overhead payload
       → parity ≡ parityOf after
-      → Sends s state g trace payload before (record { answer = Done; state = record { place = (state .place + 1) % 16; parity = parity } }) after
+      → SendsAs s state g trace payload before (record { answer = Done; state = record { place = (state .place + 1) % 16; parity = parity } }) after
   unfolding containerSource stateAfter containerSent
   send-done overhead after parity d o r p =
       rw (outcome-done (sendFaults s (state .place) (g .label) trace (length payload) (length before) (g .violations)) _ _ cc, p, r, o)
 
 -- ---- the end of `container_source`
 
+-- each row has its case's number
+pub send-numbered : (s : Shape) (place label : ℕ) (trace : List ℕ) (payload container violations : ℕ) → Numbered says (sendFaults s place label trace payload container violations)
+unfolding sendFaults says numberOf
+send-numbered s place label trace payload container violations = search (numbered-row, numbered-last) depth 8
+
+-- so the answer says the table's
+pub send-said : (s : Shape) (state : State) (g : Given) (trace payload before : List ℕ) (r : Sent) (after : List ℕ) → SendsAs s state g trace payload before r after → Sends s state g trace payload before r after
+unfolding containerSource
+send-said s state g trace payload before r after h =
+    let n = send-numbered s (state .place) (g .label) trace (length payload) (length before) (g .violations) in
+    record {
+      number-is = ap (λ (o : Outcome). answerSays (o .sent .answer)) h ∙ outcome-said (λ (o : Outcome). o .sent .answer) _ _ _ n refl (λ x. refl);
+      outcome-is = h;
+    }
+
 -- one shape for another
-pub send-as : (s t : Shape) (state : State) (g : Given) (trace payload before : List ℕ) (r : Sent) (after : List ℕ) → s ≡ t → Sends s state g trace payload before r after → Sends t state g trace payload before r after
-send-as s t state g trace payload before r after e h = rw e at h
+pub send-as : (s t : Shape) (state : State) (g : Given) (trace payload before : List ℕ) (r : Sent) (after : List ℕ) → s ≡ t → SendsAs s state g trace payload before r after → Sends t state g trace payload before r after
+send-as s t state g trace payload before r after e h = send-said t state g trace payload before r after (rw e at h)

@@ -2,12 +2,12 @@
 use mathlib.Core.Path.{_≡_}
 use Prim.Native.Nat.{ℕ, _+_, _%_}
 use mathlib.Core.Bool.{not}
-use mathlib.Core.List.{List, _++_}
+use mathlib.Core.List.{List, [], _∷_, _++_}
 use lib.Dec.{eqb, ltb}
 use lib.ListN.{length}
 use Rattle.parity.specs.Parity.{parityOf}
 use Rattle.settings.specs.Settings.{labelRefused, traceRefused}
-use Rattle.refusals.specs.Refusals.{due, outcome}
+use Rattle.refusals.specs.Refusals.{Fault, answerSays, given, saidBy, outcome}
 use Rattle.refusals.specs.declared.Refusal.{Refusal}
 use Rattle.refusals.specs.declared.Refusal.the-variants as wrong
 use Rattle.refusals.specs.declared.Answer.the-variants.{Done, Refused}
@@ -22,15 +22,15 @@ use Rattle.container_source.specs.declared.Sent.{Sent}
 abbrev pub freshState : State
 freshState = record { place = 0; parity = 0 }
 
--- all that is wrong with a call: "Container source: 8, 4, 5, 2, 3, 6". Of payload and container the lengths count.
-unfoldable pub sendFaults : Shape → ℕ → ℕ → List ℕ → ℕ → ℕ → ℕ → List Refusal
+-- what is refused: "Container source: 8, 4, 5, 2, 3, 6". Of payload and container the lengths count.
+unfoldable pub sendFaults : Shape → ℕ → ℕ → List ℕ → ℕ → ℕ → ℕ → List (Fault Refusal)
 sendFaults s place label trace payload container violations =
-    due (ltb 15 place) wrong.State
-    ++ (due (labelRefused label) wrong.Label
-    ++ (due (traceRefused trace) wrong.Trace
-    ++ (due (not (eqb payload (payloadSize (s .columns)))) wrong.Payload
-    ++ (due (not (eqb container (s .size))) wrong.Container
-    ++ due (ltb 8 violations) wrong.Violations))))
+    given 8 wrong.State (ltb 15 place)
+    ++ (given 4 wrong.Label (labelRefused label)
+    ++ (given 5 wrong.Trace (traceRefused trace)
+    ++ (given 2 wrong.Payload (not (eqb payload (payloadSize (s .columns))))
+    ++ (given 3 wrong.Container (not (eqb container (s .size)))
+    ++ given 6 wrong.Violations (ltb 8 violations)))))
 
 -- the container that is sent
 unfoldable pub containerSent : Shape → State → Given → List ℕ → List ℕ → List ℕ
@@ -52,6 +52,11 @@ containerSource s state g trace payload before =
     (record { sent = record { answer = Done; state = stateAfter s state g trace payload }; container = containerSent s state g trace payload })
     (λ x. record { sent = record { answer = Refused x; state = state }; container = before })
 
--- the promise: what is answered, and the container as it was and as it is left
-abbrev pub Sends : Shape → State → Given → List ℕ → List ℕ → List ℕ → Sent → List ℕ → Type 0
-Sends s state g trace payload before r after = _≡_ {A = Outcome} (record { sent = r; container = after }) (containerSource s state g trace payload before)
+-- what is answered is the call's, and the container is left so
+abbrev pub SendsAs : Shape → State → Given → List ℕ → List ℕ → List ℕ → Sent → List ℕ → Type 0
+SendsAs s state g trace payload before r after = _≡_ {A = Outcome} (record { sent = r; container = after }) (containerSource s state g trace payload before)
+
+-- the promise: the answer says the table's number, 0 where nothing is wrong; and the container as it was and as it is left
+pub record Sends (s : Shape) (state : State) (g : Given) (trace payload before : List ℕ) (r : Sent) (after : List ℕ) : Type 0 where
+  pub number-is : answerSays (r .answer) ≡ saidBy (0 ∷ []) (sendFaults s (state .place) (g .label) trace (length payload) (length before) (g .violations))
+  pub outcome-is : SendsAs s state g trace payload before r after

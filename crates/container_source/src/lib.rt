@@ -5,7 +5,7 @@ ghost use Prim.Native.Nat.{_≤_};
 ghost use Rattle.shape.specs.Shape.{au4, Fit};
 ghost use Rattle.refusals.specs.Refusals.{answerOf};
 ghost use Rattle.container_source.specs.Overhead.{j1Of, g1Of, overheadOf};
-ghost use Rattle.container_source.specs.Source.{freshState, sendFaults, Sends};
+ghost use Rattle.container_source.specs.Source.{freshState, sendFaults, SendsAs, Sends};
 use refusals::Answer;
 use refusals::Refusal;
 use shape::Shape;
@@ -128,7 +128,7 @@ fn send(
     container: &mut [u8],
 ) -> Sent
     requires { ⌜ Fit shape ⌝ }
-    ensures { λ r. ⌜ Sends shape s g (now (characters .entry)) (now (payload .entry)) (now (container .entry)) r (now (container .exit)) ⌝ }
+    ensures { λ r. ⌜ SendsAs shape s g (now (characters .entry)) (now (payload .entry)) (now (container .entry)) r (now (container .exit)) ⌝ }
 {
     let t = *characters;
     match answer(

@@ -8,7 +8,7 @@ use lib.Seq.{length-take-le}
 use Rattle.copier.proofs.Put.{length-piece}
 use Rattle.text.specs.Text.{Written}
 use Rattle.text.proofs.Pieces.{written-then}
-use Rattle.catalogue.specs.Catalogue.{checkOf}
+use Rattle.catalogue.specs.Catalogue.{Checks}
 use Rattle.records.specs.declared.Refusal.{Refusal}
 use Rattle.catalogue.specs.declared.Checked.{Checked}
 use Rattle.catalogue.specs.declared.Checked.the-variants.{Good, Refused}
@@ -37,18 +37,18 @@ pub listed-part : (s b a : List ℕ) (n : ℕ) → Listed s b a n → n ≡ leng
 listed-part s b a n l = sym (length-take-le n a (listed-there s b a n l))
 
 -- c is what the check answered
-module _ (s : List ℕ) (c : Checked) (is-c : c ≡ checkOf s) where
+module _ (s : List ℕ) (c : Checked) (is-c : Checks s c) where
   module _ (n : ℕ) (e : c ≡ Good n) where
     pub good-records : length s ≡ 21 * n
-    good-records = good-length s n (sym is-c ∙ e) .0
+    good-records = good-length s n (sym (is-c .answer-is) ∙ e) .0
 
     pub good-room : (b : List ℕ) → length b ≡ 15898 → 26 + 31 * n ≤ length b
-    good-room b l = omega (arith, good-length s n (sym is-c ∙ e) .0, good-length s n (sym is-c ∙ e) .1)
+    good-room b l = omega (arith, good-length s n (sym (is-c .answer-is) ∙ e) .0, good-length s n (sym (is-c .answer-is) ∙ e) .1)
 
     pub good-listed : (b a : List ℕ) (k : ℕ) → length a ≡ length b → length b ≡ 15898 → Written 0 (heading ++ linesFrom s 0 n) b a k → Listed s b a k
     unfolding listingOf textOf
-    good-listed b a k q l w = listed s (heading ++ linesFrom s 0 n) b a k (rw (← is-c, e)) q l w
+    good-listed b a k q l w = listed s (heading ++ linesFrom s 0 n) b a k (rw (← (is-c .answer-is), e)) q l w
 
   pub refused-listed : (x : Refusal) → c ≡ Refused x → (b a : List ℕ) (k : ℕ) → length a ≡ length b → length b ≡ 15898 → Written 0 (refusalLine x) b a k → Listed s b a k
   unfolding listingOf textOf
-  refused-listed x e b a k q l w = listed s (refusalLine x) b a k (rw (← is-c, e)) q l w
+  refused-listed x e b a k q l w = listed s (refusalLine x) b a k (rw (← (is-c .answer-is), e)) q l w

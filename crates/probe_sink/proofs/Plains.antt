@@ -55,4 +55,4 @@ fresh-is s p e f = f ∙ ap plainOf e
 
 pub shows : (p : Plain) (e : Expected) (flags : Flags) (unit held done held′ done′ : List ℕ) (s : State) (x : Received) (q : Shown)
     → s ≡ stateOf p → Receives au4 s e flags unit held done x held′ done′ → q ≡ shownOf x → Shows p e flags unit held done q held′ done′
-shows p e flags unit held done held′ done′ s x q k h f = rw (f, ← k) (ap probedOf h)
+shows p e flags unit held done held′ done′ s x q k h f = rw (f, ← k) (ap probedOf (h .outcome-is))

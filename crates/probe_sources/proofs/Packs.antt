@@ -34,14 +34,14 @@ made-packed x n p e f = rw (e, f)
 pub container-probed : (s : Shape) (state : between-containers.State) (g : Given) (trace payload before after : List ℕ) (m : Sent) (n : ℕ)
     → containers.Sends s state g trace payload before m after → n ≡ packedSent m
     → Probes n after (probedSent (containers.containerSource s state g trace payload before))
-container-probed s state g trace payload before after m n e p = rw p (ap probedSent e)
+container-probed s state g trace payload before after m n e p = rw p (ap probedSent (e .outcome-is))
 
 pub unit-probed : (s : Shape) (state : between-units.State) (asked : ℕ) (a : Adjustment) (current next before after : List ℕ) (m : Made) (n : ℕ)
     → a ≡ adjustmentOf asked → units.Makes s state a current next before m after → n ≡ packedMade m
     → Probes n after (probedMade (units.unitSource s state (adjustmentOf asked) current next before))
-unit-probed s state asked a current next before after m n h e p = rw (← h, p) (ap probedMade e)
+unit-probed s state asked a current next before after m n h e p = rw (← h, p) (ap probedMade (e .outcome-is))
 
 pub payload-probed : (s : Shape) (container : List ℕ) (ais : Bool) (before after : List ℕ) (a : Answer) (n : ℕ)
     → Hands s container ais before a after → n ≡ answerNumber a
     → Probes n after (probedHanded (payloadCall s container ais before))
-payload-probed s container ais before after a n e p = rw p (ap probedHanded e)
+payload-probed s container ais before after a n e p = rw p (ap probedHanded (e .outcome-is))

@@ -178,10 +178,10 @@ word-adjusting-determined κs a x y s t p q = p ∙ sym q
 -- ---- catalogue
 
 pub catalogue-check-determined : Determines {O = Checked} 1 catalogue-check.ps catalogue-check.r catalogue-check-promise.Post (λ κs r e. r)
-catalogue-check-determined κs a x y s t p q = p ∙ sym q
+catalogue-check-determined κs a x y s t p q = p .answer-is ∙ sym (q .answer-is)
 
 pub catalogue-lookup-determined : Determines {O = Looked} 1 catalogue-lookup.ps catalogue-lookup.r catalogue-lookup-promise.Post (λ κs r e. r)
-catalogue-lookup-determined κs a x y s t p q = p ∙ sym q
+catalogue-lookup-determined κs a x y s t p q = p .answer-is ∙ sym (q .answer-is)
 
 pub records-number-determined : Determines {O = ℕ} 0 records-number.ps records-number.r records-number-promise.Post (λ κs r e. r)
 records-number-determined κs a x y s t p q = p ∙ sym q

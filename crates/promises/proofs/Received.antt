@@ -244,7 +244,7 @@ pub sink-fresh-determined : Determines {O = State} 0 sink-fresh.ps sink-fresh.r 
 sink-fresh-determined κs a x y s t p q = p ∙ sym q
 
 pub sink-determined : Determines {O = Outcome} 4 sink.ps sink.r sink-promise.Post (λ κs r e. record { received = r; held = now (e .1 .1 .1 .1 .1 .0); done = now (e .1 .1 .1 .1 .1 .1 .0) })
-sink-determined κs a x y s t p q = p ∙ sym q
+sink-determined κs a x y s t p q = p .outcome-is ∙ sym (q .outcome-is)
 
 -- ---- probe_sink
 

@@ -84,7 +84,7 @@ pub container-rows-determined : Determines {O = List ℕ} 2 container-rows.ps co
 container-rows-determined κs a x y s t p q = p ∙ sym q
 
 pub payload-call-determined : Determines {O = Handed} 2 payload-call.ps payload-call.r payload-call-promise.Post (λ κs r e. record { answer = r; payload = now (e .1 .1 .0) })
-payload-call-determined κs a x y s t p q = p ∙ sym q
+payload-call-determined κs a x y s t p q = p .outcome-is ∙ sym (q .outcome-is)
 
 -- ---- container_source
 
@@ -92,7 +92,7 @@ pub container-source-fresh-determined : Determines {O = between-containers.State
 container-source-fresh-determined κs a x y s t p q = p ∙ sym q
 
 pub container-source-determined : Determines {O = container-left.Outcome} 3 container-source.ps container-source.r container-source-promise.Post (λ κs r e. record { sent = r; container = now (e .1 .1 .1 .1 .0) })
-container-source-determined κs a x y s t p q = p ∙ sym q
+container-source-determined κs a x y s t p q = p .outcome-is ∙ sym (q .outcome-is)
 
 -- ---- unit
 
@@ -108,7 +108,7 @@ pub unit-source-fresh-determined : Determines {O = between-units.State} 0 unit-s
 unit-source-fresh-determined κs a x y s t p q = p ∙ sym q
 
 pub unit-source-determined : Determines {O = unit-left.Outcome} 3 unit-source.ps unit-source.r unit-source-promise.Post (λ κs r e. record { made = r; unit = now (e .1 .1 .1 .1 .0) })
-unit-source-determined κs a x y s t p q = p ∙ sym q
+unit-source-determined κs a x y s t p q = p .outcome-is ∙ sym (q .outcome-is)
 
 -- ---- probe_sources
 

@@ -7,7 +7,7 @@ use native.Mathlib.Omega.{arith}
 use lib.Dec.{eqb}
 use lib.ListN.{length}
 use Rattle.settings.specs.Settings.{labelRefused, traceRefused}
-use Rattle.refusals.specs.Refusals.{due, answerOf, answerNumber, numberOf}
+use Rattle.refusals.specs.Refusals.{Fault, due, given, answerOf, answerNumber, numberOf}
 use Rattle.refusals.specs.declared.Refusal.{Refusal}
 use Rattle.refusals.specs.declared.Refusal.the-variants as wrong
 use Rattle.refusals.specs.declared.Answer.the-variants.{Done, Refused}
@@ -19,7 +19,7 @@ use Rattle.sink.specs.declared.State.{State}
 use Rattle.reach.specs.Reach.{Call, called}
 
 -- all that is wrong with a call
-abbrev pub faults : Shape → State → Call → List Refusal
+abbrev pub faults : Shape → State → Call → List (Fault Refusal)
 faults s state c = sinkFaults s state (c .expected .label) (c .expected .trace) (length (c .unit)) (length (c .held)) (length (c .done))
 
 -- a call is refused by the first thing wrong with it, and done where nothing is: it never refuses otherwise
@@ -51,7 +51,7 @@ refused-kept s state c x =
 -- ---- refusal 8
 
 -- none of the refusals after it is 8
-later-not-8 : (l t u b : Bool) → answerOf (due l wrong.Label ++ (due t wrong.Trace ++ (due u wrong.Unit ++ due b wrong.Container))) ≡ Refused wrong.State → ⊥
+later-not-8 : (l t u b : Bool) → answerOf (given 4 wrong.Label l ++ (given 5 wrong.Trace t ++ (given 1 wrong.Unit u ++ given 3 wrong.Container b))) ≡ Refused wrong.State → ⊥
 unfolding due answerOf answerNumber numberOf
 later-not-8 true t u b h = let n : _≡_ {A = ℕ} 4 8 = ap answerNumber h in absurd (omega arith)
 later-not-8 false true u b h = let n : _≡_ {A = ℕ} 5 8 = ap answerNumber h in absurd (omega arith)

@@ -6,7 +6,7 @@ use mathlib.Core.List.{List}
 use Prim.Native.Nat.{ℕ, _<_}
 use native.Mathlib.Omega.{arith}
 use lib.ListN.{length}
-use Rattle.refusals.specs.Refusals.{answerOf}
+use Rattle.refusals.specs.Refusals.{Fault, answerOf}
 use Rattle.refusals.specs.declared.Refusal.{Refusal}
 use Rattle.refusals.specs.declared.Answer.{Answer}
 use Rattle.refusals.specs.declared.Answer.the-variants.{Done, Refused}
@@ -29,7 +29,7 @@ some-columns s f = omega (arith, f .nine, f .some, f .two)
 -- ---- the container source
 
 module _ (s : Shape) (state : State) (g : Given) (trace payload before : List ℕ) where
-  abbrev faults : List Refusal
+  abbrev faults : List (Fault Refusal)
   faults = sendFaults s (state .place) (g .label) trace (length payload) (length before) (g .violations)
 
   -- the answer is the first of all that is wrong

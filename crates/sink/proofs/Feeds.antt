@@ -6,11 +6,11 @@ use Prim.Native.Nat.{ℕ, _≤_, _<_}
 use native.Mathlib.Omega.{arith}
 use lib.ListN.{length, getD}
 use Rattle.word.specs.Word.{wordOf}
-use Rattle.refusals.specs.Refusals.{answerOf}
+use Rattle.refusals.specs.Refusals.{answerSays, answerOf}
 use Rattle.refusals.specs.declared.Refusal.{Refusal}
 use Rattle.refusals.specs.declared.Answer.{Answer}
 use Rattle.refusals.specs.declared.Answer.the-variants.{Done, Refused}
-use Rattle.refusals.proofs.Wrong.{outcome-done, outcome-refused}
+use Rattle.refusals.proofs.Wrong.{outcome-done, outcome-refused, outcome-said}
 use Rattle.shape.specs.Shape.{Fit}
 use Rattle.shape.specs.declared.Shape.{Shape}
 use Rattle.reading.specs.Reading.{restarts, adjustmentOf}
@@ -30,10 +30,10 @@ use Rattle.report.specs.declared.Flags.{Flags}
 use Rattle.report.specs.declared.Defects.{Defects}
 use Rattle.report.specs.declared.Actions.{Actions}
 use Rattle.report.specs.declared.Causes.{Causes}
-use Rattle.sink.specs.Sink.{sinkFaults, wordIn, pointed, leaving, told, refusing, sink, Receives, Fed, Pointed, LeavesAs}
+use Rattle.sink.specs.Sink.{sinkFaults, wordIn, pointed, leaving, told, refusing, Outcome, sink, ReceivesAs, Receives, Fed, Pointed, LeavesAs}
 use Rattle.sink.specs.declared.State.{State}
 use Rattle.sink.specs.declared.Received.{Received}
-use Rattle.sink.proofs.Refuses.{Ranged, ranged, fed}
+use Rattle.sink.proofs.Refuses.{Ranged, ranged, numbered, fed}
 
 -- ---- the word
 
@@ -136,7 +136,7 @@ told-none state x none h = rw h refl
 module _ (s : Shape) (state : State) (e : Expected) (flags : Flags) (unit held done : List ℕ)
     (r : Answer) (r-is : r ≡ answerOf (sinkFaults s state (e .label) (e .trace) (length unit) (length held) (length done)))
   where
-    pub feed-refused : (x : Refusal) (q : Received) → r ≡ Refused x → q ≡ refusing state x → Receives s state e flags unit held done q held done
+    pub feed-refused : (x : Refusal) (q : Received) → r ≡ Refused x → q ≡ refusing state x → ReceivesAs s state e flags unit held done q held done
     unfolding sink
     feed-refused x q h q-is =
         rw (outcome-refused (sinkFaults s state (e .label) (e .trace) (length unit) (length held) (length done)) _ _ x (sym r-is ∙ h), q-is) refl
@@ -154,7 +154,7 @@ module _ (s : Shape) (state : State) (e : Expected) (flags : Flags) (unit held d
       feed-pointed f = record { fit = f; fed = feed-fine h; after-is = a-is }
 
       pub feed-done : (left : Left) (held′ done′ : List ℕ) (q : Received) → LeavesAs s state a e unit held done left held′ done′ → q ≡ told (a .pointer) (state .total) left e flags
-          → Receives s state e flags unit held done q held′ done′
+          → ReceivesAs s state e flags unit held done q held′ done′
       unfolding sink
       feed-done left held′ done′ q l q-is =
           let left-is = ap (λ (x : Leaving). x .left) l in
@@ -162,7 +162,18 @@ module _ (s : Shape) (state : State) (e : Expected) (flags : Flags) (unit held d
           let done-is = ap (λ (x : Leaving). x .done) l in
           rw (outcome-done (sinkFaults s state (e .label) (e .trace) (length unit) (length held) (length done)) _ _ (sym r-is ∙ h), ← a-is, ← left-is, ← held-is, ← done-is, q-is) refl
 
+-- the answer says the table's number
+pub feed-said : (s : Shape) (state : State) (e : Expected) (flags : Flags) (unit held done : List ℕ) (r : Received) (held′ done′ : List ℕ)
+    → ReceivesAs s state e flags unit held done r held′ done′ → Receives s state e flags unit held done r held′ done′
+unfolding sink told refusing
+feed-said s state e flags unit held done r held′ done′ p =
+    let n = numbered s state (e .label) (e .trace) (length unit) (length held) (length done) in
+    record {
+      number-is = ap (λ (o : Outcome). answerSays (o .received .answer)) p ∙ outcome-said (λ (o : Outcome). o .received .answer) _ _ _ n refl (λ x. refl);
+      outcome-is = p;
+    }
+
 -- the shape is fixed by the entry point
 pub feed-as : (s t : Shape) (state : State) (e : Expected) (flags : Flags) (unit held done : List ℕ) (r : Received) (held′ done′ : List ℕ)
-    → s ≡ t → Receives s state e flags unit held done r held′ done′ → Receives t state e flags unit held done r held′ done′
-feed-as s t state e flags unit held done r held′ done′ h p = rw h at p
+    → s ≡ t → ReceivesAs s state e flags unit held done r held′ done′ → Receives t state e flags unit held done r held′ done′
+feed-as s t state e flags unit held done r held′ done′ h p = feed-said t state e flags unit held done r held′ done′ (rw h at p)

@@ -7,11 +7,11 @@ use lib.Dec.{eqb}
 use borrow.Author.Tests.{eq-eqb, ne-eqb, eqb-true, not-false}
 use Rattle.laws.proofs.Tests.{or-false}
 use Rattle.settings.specs.Settings.{labelRefused, traceRefused}
-use Rattle.refusals.specs.Refusals.{due, answerOf}
+use Rattle.refusals.specs.Refusals.{Fault, due, numberOf, says, answerOf}
 use Rattle.refusals.specs.declared.Refusal.{Refusal}
 use Rattle.refusals.specs.declared.Refusal.the-variants as wrong
 use Rattle.refusals.specs.declared.Answer.the-variants.{Done, Refused}
-use Rattle.refusals.proofs.Wrong.{due-none, due-false, none-wrong}
+use Rattle.refusals.proofs.Wrong.{due-none, due-false, none-wrong, Numbered, numbered-row, numbered-last}
 use Rattle.shape.specs.Shape.{unitLength, heldCount}
 use Rattle.shape.specs.declared.Shape.{Shape}
 use Rattle.pointer.specs.Machine as pointer
@@ -68,7 +68,7 @@ module _ (s : Shape) (state : State) (a : Bool) (a-is : a ≡ pointer.inRange (s
 -- ---- the answer, by the tests that led to it
 
 module _ (s : Shape) (state : State) (label : ℕ) (trace : List ℕ) (unit held done : ℕ) where
-  abbrev faults : List Refusal
+  abbrev faults : List (Fault Refusal)
   faults = sinkFaults s state label trace unit held done
 
   module _ (o : Bool) (is-o : o ≡ outOfRange s state) where
@@ -100,15 +100,20 @@ module _ (s : Shape) (state : State) (label : ℕ) (trace : List ℕ) (unit held
             unfolding sinkFaults due answerOf
             nothing-wrong h = rw (← is-o, o-no, ← is-l, l-no, ← is-t, t-no, eq-eqb unit (unitLength s) full, h) refl
 
+  -- each row has its case's number
+  pub numbered : Numbered says faults
+  unfolding sinkFaults says numberOf
+  numbered = search (numbered-row, numbered-last)
+
   -- a call that is done had nothing wrong with it
   pub fed : answerOf faults ≡ Done → Fed s state unit held done
   unfolding sinkFaults
   fed d =
-      let p1 = due-none (outOfRange s state) wrong.State _ (none-wrong faults d) in
-      let p2 = due-none (labelRefused label) wrong.Label _ (p1 .1) in
-      let p3 = due-none (traceRefused trace) wrong.Trace _ (p2 .1) in
-      let p4 = due-none (not (eqb unit (unitLength s))) wrong.Unit _ (p3 .1) in
-      let p5 = or-false (not (eqb held (s .size))) (not (eqb done (s .size))) (due-false (not (eqb held (s .size)) || not (eqb done (s .size))) wrong.Container (p4 .1)) in
+      let p1 = due-none (outOfRange s state) _ _ (none-wrong faults d) in
+      let p2 = due-none (labelRefused label) _ _ (p1 .1) in
+      let p3 = due-none (traceRefused trace) _ _ (p2 .1) in
+      let p4 = due-none (not (eqb unit (unitLength s))) _ _ (p3 .1) in
+      let p5 = or-false (not (eqb held (s .size))) (not (eqb done (s .size))) (due-false (not (eqb held (s .size)) || not (eqb done (s .size))) _ (p4 .1)) in
       record {
         fine = p1 .0;
         unit-is = eqb-true unit (unitLength s) (not-false (eqb unit (unitLength s)) (p4 .0));

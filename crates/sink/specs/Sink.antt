@@ -4,12 +4,12 @@
 use mathlib.Core.Path.{_≡_}
 use Prim.Native.Nat.{ℕ}
 use mathlib.Core.Bool.{Bool, false, cond, not, _||_}
-use mathlib.Core.List.{List, _++_}
+use mathlib.Core.List.{List, [], _∷_, _++_}
 use lib.Dec.{eqb}
 use lib.ListN.{length, getD}
 use Rattle.word.specs.Word.{wordOf}
 use Rattle.settings.specs.Settings.{labelRefused, traceRefused}
-use Rattle.refusals.specs.Refusals.{due, outcome}
+use Rattle.refusals.specs.Refusals.{Fault, answerSays, given, saidBy, outcome}
 use Rattle.refusals.specs.declared.Refusal.{Refusal}
 use Rattle.refusals.specs.declared.Refusal.the-variants as wrong
 use Rattle.refusals.specs.declared.Answer.the-variants.{Done, Refused}
@@ -47,14 +47,14 @@ outOfRange s state =
     || not (monitor.inRange (state .monitor))
     || not (eqb (state .held) (heldIn s (state .pointer)))
 
--- all that is wrong with a call: "Sink: 8, 4, 5, 1, 3". Of unit, held and done the lengths count.
-unfoldable pub sinkFaults : Shape → State → ℕ → List ℕ → ℕ → ℕ → ℕ → List Refusal
+-- what is refused: "Sink: 8, 4, 5, 1, 3". Of unit, held and done the lengths count.
+unfoldable pub sinkFaults : Shape → State → ℕ → List ℕ → ℕ → ℕ → ℕ → List (Fault Refusal)
 sinkFaults s state label trace unit held done =
-    due (outOfRange s state) wrong.State
-    ++ (due (labelRefused label) wrong.Label
-    ++ (due (traceRefused trace) wrong.Trace
-    ++ (due (not (eqb unit (unitLength s))) wrong.Unit
-    ++ due (not (eqb held (s .size)) || not (eqb done (s .size))) wrong.Container)))
+    given 8 wrong.State (outOfRange s state)
+    ++ (given 4 wrong.Label (labelRefused label)
+    ++ (given 5 wrong.Trace (traceRefused trace)
+    ++ (given 1 wrong.Unit (not (eqb unit (unitLength s)))
+    ++ given 3 wrong.Container (not (eqb held (s .size)) || not (eqb done (s .size))))))
 
 -- ---- one unit
 
@@ -129,10 +129,15 @@ sink s state e flags unit held done =
     (record { received = told (a .pointer) (state .total) (l .left) e flags; held = l .held; done = l .done })
     (λ x. record { received = refusing state x; held = held; done = done })
 
--- the promise: what is answered, and held and done as they were and as they are left
-abbrev pub Receives : Shape → State → Expected → Flags → List ℕ → List ℕ → List ℕ → Received → List ℕ → List ℕ → Type 0
-Receives s state e flags unit held done r held′ done′ =
+-- what is answered is the call's, and held and done are left so
+abbrev pub ReceivesAs : Shape → State → Expected → Flags → List ℕ → List ℕ → List ℕ → Received → List ℕ → List ℕ → Type 0
+ReceivesAs s state e flags unit held done r held′ done′ =
     _≡_ {A = Outcome} (record { received = r; held = held′; done = done′ }) (sink s state e flags unit held done)
+
+-- the promise: the answer says the table's number, 0 where nothing is wrong; and all that is answered, with held and done as they were and as they are left
+pub record Receives (s : Shape) (state : State) (e : Expected) (flags : Flags) (unit held done : List ℕ) (r : Received) (held′ done′ : List ℕ) : Type 0 where
+  pub number-is : answerSays (r .answer) ≡ saidBy (0 ∷ []) (sinkFaults s state (e .label) (e .trace) (length unit) (length held) (length done))
+  pub outcome-is : ReceivesAs s state e flags unit held done r held′ done′
 
 -- ---- what the parts of a call are given
 

@@ -5,7 +5,7 @@ ghost use Prim.Native.Nat.{_<_};
 ghost use lib.ListN.{length};
 ghost use Rattle.shape.specs.Shape.{au4, Fit};
 ghost use Rattle.refusals.specs.Refusals.{answerOf};
-ghost use Rattle.sink.specs.Sink.{freshState, outOfRange, sinkFaults, pointed, Pointed, LeavesAs, told, refusing, Receives};
+ghost use Rattle.sink.specs.Sink.{freshState, outOfRange, sinkFaults, pointed, Pointed, LeavesAs, told, refusing, ReceivesAs, Receives};
 use monitor::Expected;
 use monitor::Monitor;
 use pointer::After;
@@ -210,7 +210,7 @@ fn feed(
     done: &mut [u8],
 ) -> Received
     requires { ⌜ Fit shape ⌝ }
-    ensures { λ r. ⌜ Receives shape s e flags (now (unit .entry)) (now (held .entry)) (now (done .entry)) r (now (held .exit)) (now (done .exit)) ⌝ }
+    ensures { λ r. ⌜ ReceivesAs shape s e flags (now (unit .entry)) (now (held .entry)) (now (done .entry)) r (now (held .exit)) (now (done .exit)) ⌝ }
 {
     match answer(shape, s, e, unit.len(), held.len(), done.len()) {
         Answer::Refused(x) => {

@@ -1,5 +1,5 @@
 -- What each test of a call decides, what a call that is done has shown, and the two ends of `make`. Assumes nothing.
-use mathlib.Core.Path.{_≡_, refl, sym, _∙_}
+use mathlib.Core.Path.{_≡_, refl, sym, ap, _∙_}
 use mathlib.Core.Bool.{Bool, true, false, _&&_, _||_, not}
 use mathlib.Core.List.{List}
 use Prim.Native.Nat.{ℕ, _≤_}
@@ -7,8 +7,8 @@ use lib.Dec.{eqb, ltb}
 use lib.ListN.{length}
 use borrow.Author.Tests.{ltb-false, le-ltb, eqb-true, eq-eqb, ne-eqb, not-false}
 use Rattle.laws.proofs.Tests.{or-false}
-use Rattle.refusals.specs.Refusals.{due, answerOf}
-use Rattle.refusals.proofs.Wrong.{due-none, due-false, none-wrong, outcome-done, outcome-refused}
+use Rattle.refusals.specs.Refusals.{due, numberOf, says, answerSays, answerOf}
+use Rattle.refusals.proofs.Wrong.{due-none, due-false, none-wrong, outcome-done, outcome-refused, Numbered, numbered-row, numbered-last, outcome-said}
 use Rattle.refusals.specs.declared.Refusal.{Refusal}
 use Rattle.refusals.specs.declared.Refusal.the-variants as wrong
 use Rattle.refusals.specs.declared.Answer.{Answer}
@@ -16,7 +16,7 @@ use Rattle.refusals.specs.declared.Answer.the-variants.{Done, Refused}
 use Rattle.shape.specs.Shape.{unitLength, offsetAfter, endedBy}
 use Rattle.shape.specs.declared.Shape.{Shape}
 use Rattle.shape.specs.declared.Adjustment.{Adjustment}
-use Rattle.unit_source.specs.Source.{Ready, adjusts, outOfRange, makeFaults, unitSent, waitAfter, stateAfter, unitSource, Makes}
+use Rattle.unit_source.specs.Source.{Ready, adjusts, outOfRange, makeFaults, unitSent, waitAfter, stateAfter, Outcome, unitSource, MakesAs, Makes}
 use Rattle.unit_source.specs.declared.State.{State}
 use Rattle.unit_source.specs.declared.Made.{Made}
 
@@ -59,10 +59,10 @@ module _ (s : Shape) (state : State) (a : Adjustment) (current next unit : ℕ) 
   unfolding makeFaults outOfRange
   makable e =
       let w = none-wrong (makeFaults s state a current next unit) e in
-      let p = due-none (outOfRange (s .top) state) wrong.State _ w in
-      let q = due-none (not (eqb current (s .size)) || not (eqb next (s .size))) wrong.Container _ (p .1) in
-      let r = due-none (not (eqb unit (unitLength s))) wrong.Unit _ (q .1) in
-      let late = due-false (adjusts a && ltb (state .wait) 3) wrong.Adjustment (r .1) in
+      let p = due-none (outOfRange (s .top) state) _ _ w in
+      let q = due-none (not (eqb current (s .size)) || not (eqb next (s .size))) _ _ (p .1) in
+      let r = due-none (not (eqb unit (unitLength s))) _ _ (q .1) in
+      let late = due-false (adjusts a && ltb (state .wait) 3) _ (r .1) in
       let range = or-false (ltb (s .top) (state .offset)) (ltb 3 (state .wait)) (p .0) in
       let both = or-false (not (eqb current (s .size))) (not (eqb next (s .size))) (q .0) in
       record {
@@ -108,15 +108,30 @@ module _ (s : Shape) (state : State) (a : Adjustment) (current next before : Lis
   pub made-ready : r ≡ Done → Ready s (state .offset) (length current) (length next) (length before)
   made-ready h = makable s state a (length current) (length next) (length before) (sym r-is ∙ h) .ready
 
-  pub made-refused : (x : Refusal) → r ≡ Refused x → Makes s state a current next before (record { answer = Refused x; ended = 0; state = state }) before
+  pub made-refused : (x : Refusal) → r ≡ Refused x → MakesAs s state a current next before (record { answer = Refused x; ended = 0; state = state }) before
   made-refused x h = sym (source-refused s state a current next before x (sym r-is ∙ h))
 
   pub made-done : (ended offset wait : ℕ) (after : List ℕ) → r ≡ Done → ended ≡ endedBy a (state .offset) → offset ≡ offsetAfter (s .top) a (state .offset) → wait ≡ waitAfter a (state .wait)
       → after ≡ unitSent s a (state .offset) current next
-      → Makes s state a current next before (record { answer = Done; ended = ended; state = record { offset = offset; wait = wait } }) after
+      → MakesAs s state a current next before (record { answer = Done; ended = ended; state = record { offset = offset; wait = wait } }) after
   unfolding stateAfter
   made-done ended offset wait after h e o w u = rw (e, o, w, u) (sym (source-done s state a current next before (sym r-is ∙ h)))
 
+-- each row has its case's number
+pub make-numbered : (s : Shape) (state : State) (a : Adjustment) (current next unit : ℕ) → Numbered says (makeFaults s state a current next unit)
+unfolding makeFaults says numberOf
+make-numbered s state a current next unit = search (numbered-row, numbered-last)
+
+-- so the answer says the table's
+pub make-said : (s : Shape) (state : State) (a : Adjustment) (current next before after : List ℕ) (m : Made) → MakesAs s state a current next before m after → Makes s state a current next before m after
+unfolding unitSource
+make-said s state a current next before after m h =
+    let n = make-numbered s state a (length current) (length next) (length before) in
+    record {
+      number-is = ap (λ (o : Outcome). answerSays (o .made .answer)) h ∙ outcome-said (λ (o : Outcome). o .made .answer) _ _ _ n refl (λ x. refl);
+      outcome-is = h;
+    }
+
 -- the entry point fixes the shape
-pub makes-at : (s t : Shape) (state : State) (a : Adjustment) (current next before after : List ℕ) (m : Made) → s ≡ t → Makes s state a current next before m after → Makes t state a current next before m after
-makes-at s t state a current next before after m e h = rw (← e) h
+pub makes-at : (s t : Shape) (state : State) (a : Adjustment) (current next before after : List ℕ) (m : Made) → s ≡ t → MakesAs s state a current next before m after → Makes t state a current next before m after
+makes-at s t state a current next before after m e h = make-said t state a current next before after m (rw (← e) h)

@@ -2,12 +2,12 @@
 use mathlib.Core.Path.{_≡_}
 use Prim.Native.Nat.{ℕ, _-_, _≤_}
 use mathlib.Core.Bool.{Bool, true, false, _&&_, _||_, not}
-use mathlib.Core.List.{List, _++_}
+use mathlib.Core.List.{List, [], _∷_, _++_}
 use lib.Dec.{eqb, ltb}
 use lib.ListN.{length}
 use Rattle.counts.specs.Counts.{more}
 use Rattle.word.specs.Word.{plainWord, invertedWord, bitsI, bitsD}
-use Rattle.refusals.specs.Refusals.{due, outcome}
+use Rattle.refusals.specs.Refusals.{Fault, answerSays, given, saidBy, outcome}
 use Rattle.refusals.specs.declared.Refusal.{Refusal}
 use Rattle.refusals.specs.declared.Refusal.the-variants as wrong
 use Rattle.refusals.specs.declared.Answer.the-variants.{Done, Refused}
@@ -35,13 +35,13 @@ adjusts Decrement = true
 unfoldable pub outOfRange : ℕ → State → Bool
 outOfRange top state = ltb top (state .offset) || ltb 3 (state .wait)
 
--- all that is wrong with a call: "Unit source: 8, 3, 1, 7". Of the containers and the unit the lengths count; 7 is "adjustment asked with fewer than three units since the last"
-unfoldable pub makeFaults : Shape → State → Adjustment → ℕ → ℕ → ℕ → List Refusal
+-- what is refused: "Unit source: 8, 3, 1, 7". Of the containers and the unit the lengths count; 7 is "adjustment asked with fewer than three units since the last"
+unfoldable pub makeFaults : Shape → State → Adjustment → ℕ → ℕ → ℕ → List (Fault Refusal)
 makeFaults s state a current next unit =
-    due (outOfRange (s .top) state) wrong.State
-    ++ (due (not (eqb current (s .size)) || not (eqb next (s .size))) wrong.Container
-    ++ (due (not (eqb unit (unitLength s))) wrong.Unit
-    ++ due (adjusts a && ltb (state .wait) 3) wrong.Adjustment))
+    given 8 wrong.State (outOfRange (s .top) state)
+    ++ (given 3 wrong.Container (not (eqb current (s .size)) || not (eqb next (s .size)))
+    ++ (given 1 wrong.Unit (not (eqb unit (unitLength s)))
+    ++ given 7 wrong.Adjustment (adjusts a && ltb (state .wait) 3)))
 
 -- ---- what is sent
 
@@ -83,9 +83,14 @@ unitSource s state a current next before =
     (record { made = record { answer = Done; ended = endedBy a (state .offset); state = stateAfter s a state }; unit = unitSent s a (state .offset) current next })
     (λ x. record { made = record { answer = Refused x; ended = 0; state = state }; unit = before })
 
--- the promise: what is answered, and the unit as it was and as it is left
-abbrev pub Makes : Shape → State → Adjustment → List ℕ → List ℕ → List ℕ → Made → List ℕ → Type 0
-Makes s state a current next before r after = _≡_ {A = Outcome} (record { made = r; unit = after }) (unitSource s state a current next before)
+-- what is answered is the call's, and the unit is left so
+abbrev pub MakesAs : Shape → State → Adjustment → List ℕ → List ℕ → List ℕ → Made → List ℕ → Type 0
+MakesAs s state a current next before r after = _≡_ {A = Outcome} (record { made = r; unit = after }) (unitSource s state a current next before)
+
+-- the promise: the answer says the table's number, 0 where nothing is wrong; and the unit as it was and as it is left
+pub record Makes (s : Shape) (state : State) (a : Adjustment) (current next before : List ℕ) (r : Made) (after : List ℕ) : Type 0 where
+  pub number-is : answerSays (r .answer) ≡ saidBy (0 ∷ []) (makeFaults s state a (length current) (length next) (length before))
+  pub outcome-is : MakesAs s state a current next before r after
 
 -- ---- where a unit can be written
 

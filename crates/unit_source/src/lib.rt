@@ -4,7 +4,7 @@ ghost use mathlib.Core.Path.{_≡_};
 ghost use lib.ListN.{length};
 ghost use Rattle.shape.specs.Shape.{au4, Fit};
 ghost use Rattle.refusals.specs.Refusals.{answerOf};
-ghost use Rattle.unit_source.specs.Source.{freshState, adjusts, outOfRange, makeFaults, wordSent, unitSent, waitAfter, Makes, Ready};
+ghost use Rattle.unit_source.specs.Source.{freshState, adjusts, outOfRange, makeFaults, wordSent, unitSent, waitAfter, MakesAs, Makes, Ready};
 use refusals::Answer;
 use refusals::Refusal;
 use shape::Adjustment;
@@ -101,7 +101,7 @@ fn wait_after(a: Adjustment, wait: u8) -> u8
 // One unit of any shape, of the current container and the next.
 fn make(shape: Shape, s: State, a: Adjustment, current: &[u8], next: &[u8], unit: &mut [u8]) -> Made
     requires { ⌜ Fit shape ⌝ }
-    ensures { λ r. ⌜ Makes shape s a (now (current .entry)) (now (next .entry)) (now (unit .entry)) r (now (unit .exit)) ⌝ }
+    ensures { λ r. ⌜ MakesAs shape s a (now (current .entry)) (now (next .entry)) (now (unit .entry)) r (now (unit .exit)) ⌝ }
 {
     match answer(shape, s, a, current.len(), next.len(), unit.len()) {
         Answer::Refused(x) => {

@@ -21,11 +21,11 @@ pack-refusal-requires c κs = search needs
 
 returns : tie.Need-returns
 unfolding packedCheck
-returns c = simp (c .wide .ensures, ← (c .before .before .before .before .check .ensures), c .before .before .n .given .1)
+returns c = simp (c .wide .ensures, ← (c .before .before .before .before .check .ensures .answer-is), c .before .before .n .given .1)
 
 returns-2 : tie.Need-returns-2
 unfolding packedCheck
-returns-2 c = simp (c .pack-refusal .ensures, ← (c .before .before .before .before .check .ensures), c .before .before .x .given .1)
+returns-2 c = simp (c .pack-refusal .ensures, ← (c .before .before .before .before .check .ensures .answer-is), c .before .before .x .given .1)
 
 pub probe-check-spec : {M : Type 1} → statement M
 probe-check-spec =

@@ -10,7 +10,7 @@ pack-found-requires : tie.Need-pack-found-requires
 pack-found-requires c κs = search needs
 
 returns : tie.Need-returns
-returns c = (simp (c .pack-found .ensures, c .before .before .lookup .ensures), simp (c .before .before .lookup .ensures))
+returns c = (simp (c .pack-found .ensures, c .before .before .lookup .ensures .answer-is), simp (c .before .before .lookup .ensures .answer-is))
 
 pub probe-lookup-spec : {M : Type 1} → statement M
 probe-lookup-spec = tie.close (tie.spec lookup-requires pack-found-requires returns)

@@ -1,0 +1,11 @@
+-- Each row of a record's table has the number, and names the place, that the definition of numbers gives its case. Assumes nothing.
+use mathlib.Core.Path.{refl}
+use mathlib.Core.List.{List}
+use Prim.Native.Nat.{ℕ}
+use Rattle.refusals.proofs.Wrong.{Numbered, numbered-row, numbered-last}
+use Rattle.records.specs.Refusals.{numberOf, placesOf, says}
+use Rattle.records.specs.Faults.{recordFaults}
+
+pub record-numbered : (place : ℕ) (r : List ℕ) → Numbered says (recordFaults place r)
+unfolding recordFaults says numberOf placesOf
+record-numbered place r = search (numbered-row, numbered-last)
