@@ -28,7 +28,7 @@ module _ (s : Shape) (m : Making) (r : Run) (h : Host s m r) where
       ∙ ap (λ (x : State). sending.called s x (m .calls k) .sent .state) (maker-is k)
 
   -- "given its containers in order"
-  pub box-is : (k : ℕ) → r .box k ≡ sending.containerAt s (m .first) (m .calls) k
+  pub box-is : (k : ℕ) → r .box (suc k) ≡ sending.containerAt s (m .first) (m .calls) k
   box-is k =
       ap (λ (o : container-source.Outcome). o .container) (h .sends k)
       ∙ ap (λ (x : State). sending.called s x (m .calls k) .container) (maker-is k)

@@ -111,7 +111,7 @@ unfoldable pub sourceAfter : Shape → unit-source-state.State → List Asked �
 sourceAfter s state [] = state
 sourceAfter s state (c ∷ cs) = sourceAfter s (unit-source.unitSource s state (c .request) (c .current) (c .next) (c .unit) .made .state) cs
 
--- what the container source makes the containers of: its state before the run, and what each call is given
+-- what the container source makes the containers of, from container 1 on: its state as the run begins, and what each call is given
 pub record Making : Type 0 where
   pub first : container-source-state.State
   pub calls : ℕ → sending.Call
@@ -140,18 +140,25 @@ pub record Spaced (noneBefore : ℕ) (ask : ℕ → Adjustment) : Type 0 where
   pub quiet : (n : ℕ) → n < noneBefore → ask n ≡ Nothing
   pub apart : (m n : ℕ) → m < n → unit-source.adjusts (ask m) ≡ true → unit-source.adjusts (ask n) ≡ true → m + 3 < n
 
--- a good signal
-pub record Good (noneBefore : ℕ) (s : Shape) (m : Making) (r : Run) : Type 0 where
-  -- "settings and buffer lengths that no number refuses"; a trace has 15 characters by its type
+-- "settings and buffer lengths that no number refuses"; a trace has 15 characters by its type
+pub record Fine (s : Shape) (r : Run) : Type 0 where
   pub label-fine : labelRefused (r .expected .label) ≡ false
   pub trace-fine : traceRefused (r .expected .trace) ≡ false
   pub trace-is : length (r .expected .trace) ≡ 15
   pub unit-is : length (r .unit) ≡ unitLength s
   pub held-is : length (r .held) ≡ s .size
   pub done-is : length (r .done) ≡ s .size
-  -- "one source, given its containers in order, that sends the label and trace expected": container k is the one that call k leaves
-  pub box-is : (k : ℕ) → r .box k ≡ sending.containerAt s (m .first) (m .calls) k
+
+-- a good signal
+pub record Good (noneBefore : ℕ) (s : Shape) (m : Making) (r : Run) : Type 0 where
+  pub fine : Fine s r
+  -- container 0 is under way as the run begins: it was made before, and its bytes may be any, of another label or trace too
+  pub under-way : length (r .box 0) ≡ s .size
+  -- "one source, given its containers in order": each after it is the one that the source's next call leaves
+  pub box-is : (k : ℕ) → r .box (suc k) ≡ sending.containerAt s (m .first) (m .calls) k
+  -- "that sends the label and trace expected and no remote defect"
   pub given : (k : ℕ) → Given s (r .expected) (m .calls k)
+  -- "no pointer adjustment in the first eight units, and at least three plain units between adjustments later"
   pub spaced : Spaced noneBefore (r .ask)
 
 -- ---- what then holds

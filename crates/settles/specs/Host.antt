@@ -20,8 +20,8 @@ pub record Host (s : Shape) (m : Making) (r : Run) : Type 0 where
   pub received : ℕ → Received
   pub maker-first : maker 0 ≡ m .first
   pub path-first : path 0 ≡ pathAt s r 0
-  -- container k is what call k of the container source leaves in the lent one
-  pub sends : (k : ℕ) → Sends s (maker k) (m .calls k .given) (m .calls k .trace) (m .calls k .payload) (m .calls k .lent) (sent k) (r .box k)
+  -- each container after the one that is under way is what the container source's next call leaves in the lent one
+  pub sends : (k : ℕ) → Sends s (maker k) (m .calls k .given) (m .calls k .trace) (m .calls k .payload) (m .calls k .lent) (sent k) (r .box (suc k))
   pub maker-next : (k : ℕ) → maker (suc k) ≡ sent k .state
   -- the unit source is given the current container and the next, and goes on as many as it says ended
   pub makes : (n : ℕ)

@@ -44,12 +44,12 @@ twice-spaced =
     }
 
 -- demand 3 holds of it
-pub worst-settles : Settles most au4 (making 14) worst
+pub worst-settles : Settles most au4 (making 15) worst
 unfolding worst
-worst-settles = demand-3 (making 14) worst (reached 14 (omega arith) twice []) (good 14 (omega arith) twice eight (reach.reached au4 []) twice-spaced)
+worst-settles = demand-3 (making 15) worst (reached 14 (omega arith) twice []) (good 14 (omega arith) twice eight (reach.reached au4 []) twice-spaced)
 
 -- whatever number of units it settles within, 66 have ended unsettled
-worst-unsettled : (within : ℕ) → Settles within au4 (making 14) worst → unsettled au4 worst 67 ≡ 66
+worst-unsettled : (within : ℕ) → Settles within au4 (making 15) worst → unsettled au4 worst 67 ≡ 66
 unfolding worst reach.stateAfter freshState
 worst-unsettled within h = omega (arith, worst-total, h .total-is 67)
 
@@ -61,7 +61,7 @@ exactly-66 = worst-unsettled most worst-settles
 pub not-65 : Demand 65 eight au4 → ⊥
 unfolding worst
 not-65 d =
-    let h = d (making 14) worst (reached 14 (omega arith) twice []) (good 14 (omega arith) twice eight (reach.reached au4 []) twice-spaced) in
+    let h = d (making 15) worst (reached 14 (omega arith) twice []) (good 14 (omega arith) twice eight (reach.reached au4 []) twice-spaced) in
     omega (arith, worst-unsettled 65 h, h .few 67)
 
 -- ---- an adjustment in the fifth unit
@@ -95,5 +95,5 @@ up-and-down-spaced =
 pub not-four : Demand most 4 au4 → ⊥
 unfolding early
 not-four d =
-    let h = d (making 14) early (reached 14 (omega arith) upAndDown before) (good 14 (omega arith) upAndDown 4 (reach.reached au4 before) up-and-down-spaced) in
+    let h = d (making 15) early (reached 14 (omega arith) upAndDown before) (good 14 (omega arith) upAndDown 4 (reach.reached au4 before) up-and-down-spaced) in
     omega (arith, early-total, h .total-is 67, h .few 67, early-before)
