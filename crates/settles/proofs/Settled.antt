@@ -20,7 +20,7 @@ use Rattle.near.proofs.Settles.{Near, near-none, near-settled, near-free, setti
 use Rattle.together.specs.Together.{boxes, violationsAll, violationsTold}
 use Rattle.sink.specs.Sink as sink
 use Rattle.reach.proofs.Ranges.{reached-in-range}
-use Rattle.settles.specs.Demand.{Run, Path, Making, Reached, Good, Settles, Demand, most, eight, Demand3, pathAt, sentAt, fedAt, unsettled}
+use Rattle.settles.specs.Demand.{Run, Path, Making, Reached, Supplied, Good, Settles, Demand, most, eight, Demand3, pathAt, sentAt, fedAt, receivedAt, logOf, unsettled}
 use Rattle.settles.proofs.Kept.{reached-whole, reached-total}
 use Rattle.settles.proofs.Sources as sources
 use Rattle.settles.proofs.Units.{Ready, Settable, defects-is}
@@ -126,7 +126,7 @@ module _ (s : Shape) (r : Run) (u : Runs s r) (place : ℕ) (g : Setting (r .exp
 
     -- ---- the count of unsettled units
 
-    at-most : (n : ℕ) → unsettled s r n ≤ n
+    at-most : (n : ℕ) → unsettled (receivedAt s r) n ≤ n
     unfolding unsettled
     at-most zero = omega arith
     at-most (suc n) = omega (arith, at-most n, one (fedAt s r n .received .settled))
@@ -135,16 +135,16 @@ module _ (s : Shape) (r : Run) (u : Runs s r) (place : ℕ) (g : Setting (r .exp
         one true = omega arith
         one false = omega arith
 
-    no-more : (j : ℕ) → unsettled s r (most + j) ≤ most
+    no-more : (j : ℕ) → unsettled (receivedAt s r) (most + j) ≤ most
     unfolding unsettled
     no-more zero = at-most most
     no-more (suc j) =
         rw (add-suc most j, settled-then (most + j) (omega arith)) (omega (arith, no-more j))
 
-    pub few-all : (n : ℕ) → unsettled s r n ≤ most
+    pub few-all : (n : ℕ) → unsettled (receivedAt s r) n ≤ most
     few-all n = go (leb n most) refl
       where
-        go : (b : Bool) → leb n most ≡ b → unsettled s r n ≤ most
+        go : (b : Bool) → leb n most ≡ b → unsettled (receivedAt s r) n ≤ most
         go true q = omega (arith, at-most n, leb-true n most q)
         go false q = let e : most + (n - most) ≡ n = omega (arith, leb-false n most q) in rw e at (no-more (n - most))
 
@@ -158,16 +158,16 @@ pub record InRange (s : Shape) (m : Making) (r : Run) : Type 0 where
   pub source-in : sources.InRange s (r .source)
   pub first-in : m .first .place ≤ 15
 
-pub settles : (noneBefore : ℕ) (s : Shape) (m : Making) (r : Run) → five ≤ noneBefore → Fit s → 64 * s .step ≤ s .size → InRange s m r → Good noneBefore s m r → Settles most s m r
+pub settles : (noneBefore : ℕ) (s : Shape) (m : Making) (r : Run) → five ≤ noneBefore → Fit s → 64 * s .step ≤ s .size → InRange s m r → Supplied s m r → Good noneBefore s m r → Settles most s r (logOf s m r)
 unfolding pathAt
-settles noneBefore s m r some f steps i g =
+settles noneBefore s m r some f steps i box-is g =
     let place = m .first .place + 15 in
     let label-fine = g .fine .label-fine in
     let trace-fine = g .fine .trace-fine in
     let made = made-done s f m (r .expected) (i .first-in) label-fine trace-fine (g .given) in
-    let full = box-full s f m (r .expected) (i .first-in) label-fine trace-fine (g .given) (r .box) (g .box-is) (g .under-way) in
-    let like = box-like s f m (r .expected) (i .first-in) label-fine trace-fine (g .given) (r .box) (g .box-is) in
-    let chain = box-chained s f m (r .expected) (i .first-in) label-fine trace-fine (g .given) (r .box) (g .box-is) in
+    let full = box-full s f m (r .expected) (i .first-in) label-fine trace-fine (g .given) (r .box) box-is (g .under-way) in
+    let like = box-like s f m (r .expected) (i .first-in) label-fine trace-fine (g .given) (r .box) box-is in
+    let chain = box-chained s f m (r .expected) (i .first-in) label-fine trace-fine (g .given) (r .box) box-is in
     let ready : Ready s r (pathAt s r 0) =
     record {
       source-fine = record { offset-low = i .source-in .offset-low; wait-low = i .source-in .wait-low; full = full; unit-is = g .fine .unit-is };
@@ -208,7 +208,7 @@ reached-in s m r f h =
 
 -- for every shape that fits, with no adjustment in the first five units or more
 pub demand : (noneBefore : ℕ) (s : Shape) → five ≤ noneBefore → Fit s → 64 * s .step ≤ s .size → Demand most noneBefore s
-demand noneBefore s some f steps m r h g = settles noneBefore s m r some f steps (reached-in s m r f h) g
+demand noneBefore s some f steps m r h = settles noneBefore s m r some f steps (reached-in s m r f h)
 
 -- DEMAND 3
 pub demand-3 : Demand3

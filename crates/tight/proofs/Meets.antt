@@ -27,7 +27,7 @@ use Rattle.sending.proofs.Refused.{sendable-source, source-done}
 use Rattle.unit_source.specs.Source as unit-source
 use Rattle.sink.specs.declared.State as sink
 use Rattle.reach.specs.Reach as reach
-use Rattle.settles.specs.Demand.{Reached, Spaced, Good, sourceAfter}
+use Rattle.settles.specs.Demand.{Reached, Supplied, Spaced, Good, sourceAfter}
 use Rattle.tight.specs.Signal.{trace, given, container, call, callsFrom, making, asked, run}
 
 -- ---- the containers
@@ -85,13 +85,15 @@ module _ (p : ℕ) (low : p ≤ 15) where
 
 -- the container source stands one further than the container that is under way
 module _ (place : ℕ) (low : place ≤ 14) (ask : ℕ → Adjustment) where
+  pub supplied : (state : sink.State) → Supplied au4 (making (place + 1)) (run place ask state)
+  supplied state k = let e : (place + suc k) % 16 ≡ (place + 1 + k) % 16 = omega arith in ap container e ∙ container-is (place + 1) (omega arith) k
+
   pub good : (noneBefore : ℕ) (state : sink.State) → Spaced noneBefore ask → Good noneBefore au4 (making (place + 1)) (run place ask state)
   unfolding call given trace labelRefused outside traceRefused
   good noneBefore state spaced =
       record {
         fine = record { label-fine = refl; trace-fine = refl; trace-is = refl; unit-is = refl; held-is = refl; done-is = refl };
         under-way = container-full ((place + 0) % 16);
-        box-is = λ k. let e : (place + suc k) % 16 ≡ (place + 1 + k) % 16 = omega arith in ap container e ∙ container-is (place + 1) (omega arith) k;
         given = λ k. record { label-is = refl; trace-is = refl; no-remote = refl; violations-low = omega arith; payload-is = refl; container-is = refl };
         spaced = spaced;
       }
