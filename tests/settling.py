@@ -43,6 +43,7 @@ def run(broken, units, unsettled=(), wrong=(), violations=None, defects=None, re
 # Where `violations` is None they are whatever the payload makes them, in units that are wrong or follow one.
 TABLE = {
     "worst": [run([], 67, all_of(1, 66), handed={3: [], 4: [17], 9: [22], 12: [25], 13: [], 14: [26], 20: [32], 67: [79]})],
+    "under_way": [run([], 67, all_of(1, 66), handed={3: [], 4: [17], 13: [], 67: [79]})],
     "early_adjustment": [run(["quiet"], 300, all_of(1, 300), wrong=[unit for unit in all_of(67, 300) if (unit - 71) % 8 > 1],
                              defects=dict.fromkeys(all_of(67, 300), "0100"))],
     "late_lock": [run(["quiet"], 70, all_of(1, 69), defects=dict.fromkeys(all_of(67, 69), "0100"),

@@ -9,11 +9,12 @@ use Rattle.refusals.specs.declared.Answer.the-variants.{Done}
 use Rattle.shape.specs.Shape.{endedBy}
 use Rattle.shape.specs.declared.Shape.{Shape}
 use Rattle.unit_source.specs.Source as unit-source
+use Rattle.stream.specs.Stream as stream
 use Rattle.together.specs.Together.{boxes, watchedAll, violationsAll, violationsTold}
 use Rattle.together.proofs.Together.{boxes-append}
 use Rattle.report.specs.Report.{settledOf, totalOf}
 use Rattle.sink.specs.Sink as sink
-use Rattle.settles.specs.Demand.{Run, Path, after, pathAt, sentAt, fedAt, handedAt, unsettled, handedFrom, endedFrom}
+use Rattle.settles.specs.Demand.{Run, Path, after, pathAt, sentAt, fedAt, madeAt, receivedAt, handedAt, unsettled, handedFrom, endedFrom}
 use Rattle.settles.proofs.Units.{sent-is, fed-done, settled-is, total-after, normal, handed-goes, monitor-goes, told-goes}
 use Rattle.settles.proofs.Along.{Runs, Along, Meets, along, late, meets, number-is}
 use Rattle.settles.proofs.Count.{numberAt}
@@ -41,14 +42,14 @@ module _ (s : Shape) (r : Run) (u : Runs s r) where
   number-on n = number-is s r u n (pathAt s r n) (along s r u n) ∙ ap (λ (k : ℕ). numberAt s r u n + k) (sym (ended-is n))
 
   -- the total counts the unsettled units
-  pub total-all : (n : ℕ) → pathAt s r n .state .total ≡ min (r .state .total + unsettled s r n) 65535
+  pub total-all : (n : ℕ) → pathAt s r n .state .total ≡ min (r .state .total + unsettled (receivedAt s r) n) 65535
   unfolding pathAt unsettled
   total-all zero = omega (arith, u .ready .total-low)
   total-all (suc n) =
       let x = pathAt s r n in
       let settled = fedAt s r n .received .settled in
       total-after s (u .fit) r (u .set) x (r .ask n) (along s r u n .ready) (late s r u n x (along s r u n))
-      ∙ total-on settled (x .state .total) (r .state .total) (unsettled s r n) (total-all n)
+      ∙ total-on settled (x .state .total) (r .state .total) (unsettled (receivedAt s r) n) (total-all n)
 
   -- from the fourth unit on: what is handed back, what the monitor has watched, and the violations told
   module _ (n : ℕ) (w : 3 ≤ n) where
@@ -64,7 +65,8 @@ module _ (s : Shape) (r : Run) (u : Runs s r) where
     abbrev cs : List (List ℕ)
     cs = boxes (r .box) (x .source .number) (sentAt s r n .made .ended)
 
-    pub handed-all : handedAt s r n ≡ cs
+    pub handed-all : handedAt s r (pathAt s r) (receivedAt s r) n ≡ cs
+    unfolding pathAt after stream.after
     handed-all =
         handed-goes s (u .fit) r (u .set) x (r .ask n) (h .ready) (late s r u n x h) (m .was) (m .taken-is) (m .now) (h .together w)
         ∙ ap (boxes (r .box) (x .source .number)) (sym (ended-is n))
@@ -87,10 +89,10 @@ module _ (s : Shape) (r : Run) (u : Runs s r) where
         ∙ ap (λ (b : Bool). settledOf b (after s r x (r .ask n) .state .monitor) (r .expected)) (normal s (u .fit) r (u .set) x (r .ask n) (h .ready) (late s r u n x h) (m .was) (m .taken-is) (m .now))
 
   -- in any units one after the other
-  pub in-order-all : (units n : ℕ) → 3 ≤ n → handedFrom s r n units ≡ boxes (r .box) (numberAt s r u n) (endedFrom s r n units)
+  pub in-order-all : (units n : ℕ) → 3 ≤ n → handedFrom s r (pathAt s r) (receivedAt s r) n units ≡ boxes (r .box) (numberAt s r u n) (endedFrom (madeAt s r) n units)
   unfolding handedFrom endedFrom boxes
   in-order-all zero n w = refl
   in-order-all (suc units) n w =
       ap₂ (λ (a b : List (List ℕ)). a ++ b) (handed-all n w)
-      (in-order-all units (suc n) (omega arith) ∙ ap (λ (k : ℕ). boxes (r .box) k (endedFrom s r (suc n) units)) (number-on n))
-      ∙ boxes-append (r .box) (numberAt s r u n) (sentAt s r n .made .ended) (endedFrom s r (suc n) units)
+      (in-order-all units (suc n) (omega arith) ∙ ap (λ (k : ℕ). boxes (r .box) k (endedFrom (madeAt s r) (suc n) units)) (number-on n))
+      ∙ boxes-append (r .box) (numberAt s r u n) (sentAt s r n .made .ended) (endedFrom (madeAt s r) (suc n) units)

@@ -9,7 +9,7 @@ use lib.ListN.{replicate}
 use Rattle.shape.specs.declared.Shape.{Shape}
 use Rattle.shape.specs.declared.Adjustment.the-variants.{Nothing, Increment}
 use Rattle.sink.specs.Sink.{freshState}
-use Rattle.settles.specs.Demand.{Run, pathAt, handedAt}
+use Rattle.settles.specs.Demand.{Run, pathAt, receivedAt, handedAt}
 use Rattle.settles.proofs.Opened.{opened}
 
 -- nine rows of two bytes, and a byte a step
@@ -42,10 +42,10 @@ unfolding opened
 all-counted = refl
 
 -- the sink is locked by the third: the fourth hands back the container completed in the done buffer, the sixth the one inside it
-pub one-completed : handedAt small run 3 ≡ replicate 18 3 ∷ []
+pub one-completed : handedAt small run (pathAt small run) (receivedAt small run) 3 ≡ replicate 18 3 ∷ []
 unfolding opened
 one-completed = refl
 
-pub one-inside : handedAt small run 5 ≡ replicate 18 5 ∷ []
+pub one-inside : handedAt small run (pathAt small run) (receivedAt small run) 5 ≡ replicate 18 5 ∷ []
 unfolding opened
 one-inside = refl

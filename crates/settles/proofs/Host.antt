@@ -1,57 +1,73 @@
--- What a host gets from the code, by the promises alone, is the run of the definitions: so demand 3 speaks of the code. Assumes nothing.
-use mathlib.Core.Path.{_≡_, refl, sym, ap, ap₂, _∙_}
+-- What a host gets from the code, by the promises alone, is the run of the definitions, and that run is one that a host can get: so the demand is the same of both. Assumes
+-- nothing.
+use mathlib.Core.Path.{_≡_, refl, sym, ap, subst, _∙_}
 use mathlib.Core.List.{List}
 use Prim.Native.Nat.{ℕ, zero, suc, _+_}
+use Rattle.shape.specs.Shape.{au4}
 use Rattle.shape.specs.declared.Shape.{Shape}
 use Rattle.container_source.specs.Source as container-source
 use Rattle.container_source.specs.declared.State.{State}
-use Rattle.container_source.specs.declared.Sent.{Sent}
 use Rattle.sending.specs.Run as sending
 use Rattle.unit_source.specs.Source as unit-source
 use Rattle.unit_source.specs.declared.Made.{Made}
 use Rattle.stream.specs.Stream as stream
 use Rattle.sink.specs.Sink as sink
-use Rattle.sink.specs.declared.Received.{Received}
-use Rattle.reach.specs.Reach as reach
-use Rattle.settles.specs.Demand.{Run, Path, Making, sent, fed, after, pathAt, sentAt, fedAt}
-use Rattle.settles.specs.Host.{Host}
+use Rattle.settles.specs.Demand.{Run, Path, Making, Log, Supplied, Settles, Demand, most, eight, sent, fed, after, pathAt, madeAt, receivedAt, logOf}
+use Rattle.settles.specs.Host.{Host, HostDemand, HostDemand3}
+use Rattle.settles.proofs.Settled.{demand-3}
 
-module _ (s : Shape) (m : Making) (r : Run) (h : Host s m r) where
+module _ (s : Shape) (m : Making) (r : Run) (g : Log) (h : Host s m r g) where
+  -- ---- what the promises say
+
+  sent-outcome : (k : ℕ) → record { sent = g .sent k; container = r .box (suc k) } ≡ sending.called s (g .maker k) (m .calls k)
+  sent-outcome k = h .sends k
+
+  made-outcome : (n : ℕ) → record { made = g .made n; unit = g .path (suc n) .source .unit } ≡ sent s r (g .path n) (r .ask n)
+  made-outcome n = h .makes n
+
+  received-outcome : (n : ℕ)
+      → record { received = g .received n; held = g .path (suc n) .held; done = g .path (suc n) .done }
+      ≡ sink.sink s (g .path n .state) (r .expected) (r .flags) (g .path (suc n) .source .unit) (g .path n .held) (g .path n .done)
+  received-outcome n = h .receives n
+
   -- ---- the containers
 
-  pub maker-is : (k : ℕ) → h .maker k ≡ sending.stateAt s (m .first) (m .calls) k
+  pub maker-is : (k : ℕ) → g .maker k ≡ sending.stateAt s (m .first) (m .calls) k
   unfolding sending.stateAt
   maker-is zero = h .maker-first
   maker-is (suc k) =
       h .maker-next k
-      ∙ ap (λ (o : container-source.Outcome). o .sent .state) (h .sends k)
+      ∙ ap (λ (o : container-source.Outcome). o .sent .state) (sent-outcome k)
       ∙ ap (λ (x : State). sending.called s x (m .calls k) .sent .state) (maker-is k)
 
+  pub sent-is : (k : ℕ) → g .sent k ≡ sending.outcomeAt s (m .first) (m .calls) k .sent
+  sent-is k =
+      ap (λ (o : container-source.Outcome). o .sent) (sent-outcome k) ∙ ap (λ (x : State). sending.called s x (m .calls k) .sent) (maker-is k)
+
   -- "given its containers in order"
-  pub box-is : (k : ℕ) → r .box k ≡ sending.containerAt s (m .first) (m .calls) k
-  box-is k =
-      ap (λ (o : container-source.Outcome). o .container) (h .sends k)
+  pub supplied : Supplied s m r
+  supplied k =
+      ap (λ (o : container-source.Outcome). o .container) (sent-outcome k)
       ∙ ap (λ (x : State). sending.called s x (m .calls k) .container) (maker-is k)
 
   -- ---- the units
 
-  unit-is : (n : ℕ) → h .path (suc n) .source .unit ≡ sent s r (h .path n) (r .ask n) .unit
-  unit-is n = ap (λ (o : unit-source.Outcome). o .unit) (h .makes n)
+  unit-is : (n : ℕ) → g .path (suc n) .source .unit ≡ sent s r (g .path n) (r .ask n) .unit
+  unit-is n = ap (λ (o : unit-source.Outcome). o .unit) (made-outcome n)
 
-  fed-is : (n : ℕ) → record { received = h .received n; held = h .path (suc n) .held; done = h .path (suc n) .done } ≡ fed s r (h .path n) (r .ask n)
+  fed-is : (n : ℕ) → record { received = g .received n; held = g .path (suc n) .held; done = g .path (suc n) .done } ≡ fed s r (g .path n) (r .ask n)
   fed-is n =
-      let x = h .path n in
-      h .receives n ∙ ap (λ (u : List ℕ). sink.sink s (x .state) (r .expected) (r .flags) u (x .held) (x .done)) (unit-is n)
+      let x = g .path n in
+      received-outcome n ∙ ap (λ (u : List ℕ). sink.sink s (x .state) (r .expected) (r .flags) u (x .held) (x .done)) (unit-is n)
 
-  source-is : (n : ℕ) → h .path (suc n) .source ≡ stream.after s (r .box) (h .path n .source) (r .ask n)
+  source-is : (n : ℕ) → g .path (suc n) .source ≡ stream.after s (r .box) (g .path n .source) (r .ask n)
   unfolding stream.after
   source-is n =
-      let x = h .path n in
-      let o = sent s r x (r .ask n) in
-      let made = ap (λ (q : unit-source.Outcome). q .made) (h .makes n) in
+      let x = g .path n in
+      let made = ap (λ (q : unit-source.Outcome). q .made) (made-outcome n) in
       rw (← (h .source-next n ∙ ap (λ (q : Made). q .state) made), ← (h .number-next n ∙ ap (λ (q : Made). x .source .number + q .ended) made), ← (unit-is n)) refl
 
-  path-on : (n : ℕ) → h .path (suc n) ≡ after s r (h .path n) (r .ask n)
+  path-on : (n : ℕ) → g .path (suc n) ≡ after s r (g .path n) (r .ask n)
   unfolding after
   path-on n =
       let state = h .state-next n ∙ ap (λ (o : sink.Outcome). o .received .state) (fed-is n) in
@@ -59,18 +75,45 @@ module _ (s : Shape) (m : Making) (r : Run) (h : Host s m r) where
       let done = ap (λ (o : sink.Outcome). o .done) (fed-is n) in
       rw (← (source-is n), ← state, ← held, ← done) refl
 
-  -- THE HOST'S RUN IS THE RUN of the definitions: what it keeps before every unit, and what is answered
-  pub path-is : (n : ℕ) → h .path n ≡ pathAt s r n
+  pub path-is : (n : ℕ) → g .path n ≡ pathAt s r n
   unfolding pathAt
   path-is zero = h .path-first
   path-is (suc n) = path-on n ∙ ap (λ (x : Path). after s r x (r .ask n)) (path-is n)
 
-  pub sent-is : (k : ℕ) → h .sent k ≡ sending.outcomeAt s (m .first) (m .calls) k .sent
-  sent-is k =
-      ap (λ (o : container-source.Outcome). o .sent) (h .sends k) ∙ ap (λ (x : State). sending.called s x (m .calls k) .sent) (maker-is k)
+  pub made-is : (n : ℕ) → g .made n ≡ madeAt s r n
+  made-is n = ap (λ (o : unit-source.Outcome). o .made) (made-outcome n) ∙ ap (λ (x : Path). sent s r x (r .ask n) .made) (path-is n)
 
-  pub made-is : (n : ℕ) → h .made n ≡ sentAt s r n .made
-  made-is n = ap (λ (o : unit-source.Outcome). o .made) (h .makes n) ∙ ap (λ (x : Path). sent s r x (r .ask n) .made) (path-is n)
-
-  pub received-is : (n : ℕ) → h .received n ≡ fedAt s r n .received
+  pub received-is : (n : ℕ) → g .received n ≡ receivedAt s r n
   received-is n = ap (λ (o : sink.Outcome). o .received) (fed-is n) ∙ ap (λ (x : Path). fed s r x (r .ask n) .received) (path-is n)
+
+  -- THE HOST'S LOG IS THAT OF THE RUN: all that it keeps, and every answer
+  pub log-is : g ≡ logOf s m r
+  log-is = λ i. record { maker = λ k. maker-is k i; sent = λ k. sent-is k i; path = λ n. path-is n i; made = λ n. made-is n i; received = λ n. received-is n i }
+
+-- AND THERE IS SUCH A HOST, of every run whose containers are the source's
+pub host-exists : (s : Shape) (m : Making) (r : Run) → Supplied s m r → Host s m r (logOf s m r)
+unfolding sending.stateAt pathAt after stream.after
+host-exists s m r box-is =
+    record {
+      maker-first = refl;
+      path-first = refl;
+      sends = λ k. rw (box-is k) refl;
+      maker-next = λ k. refl;
+      makes = λ n. refl;
+      source-next = λ n. refl;
+      number-next = λ n. refl;
+      receives = λ n. refl;
+      state-next = λ n. refl;
+    }
+
+-- ---- so the demand is the same of the run and of every host
+
+pub host-demand : (within noneBefore : ℕ) (s : Shape) → Demand within noneBefore s → HostDemand within noneBefore s
+host-demand within noneBefore s d m r reached good g h = subst (Settles within s r) (sym (log-is s m r g h)) (d m r reached (supplied s m r g h) good)
+
+pub demand-host : (within noneBefore : ℕ) (s : Shape) → HostDemand within noneBefore s → Demand within noneBefore s
+demand-host within noneBefore s d m r reached box-is good = d m r reached good (logOf s m r) (host-exists s m r box-is)
+
+-- DEMAND 3 OF THE CODE
+pub host-settles : HostDemand3
+host-settles = host-demand most eight au4 demand-3

@@ -20,7 +20,7 @@ use Rattle.near.proofs.Settles.{Near, near-none, near-settled, near-free, setti
 use Rattle.together.specs.Together.{boxes, violationsAll, violationsTold}
 use Rattle.sink.specs.Sink as sink
 use Rattle.reach.proofs.Ranges.{reached-in-range}
-use Rattle.settles.specs.Demand.{Run, Path, Making, Reached, Good, Settles, Demand, most, eight, Demand3, pathAt, sentAt, fedAt, unsettled}
+use Rattle.settles.specs.Demand.{Run, Path, Making, Reached, Supplied, Good, Settles, Demand, most, eight, Demand3, pathAt, sentAt, fedAt, receivedAt, logOf, unsettled}
 use Rattle.settles.proofs.Kept.{reached-whole, reached-total}
 use Rattle.settles.proofs.Sources as sources
 use Rattle.settles.proofs.Units.{Ready, Settable, defects-is}
@@ -41,11 +41,18 @@ record Watching (s : Shape) (r : Run) (place since : ℕ) (x : Path) : Type 0 wh
   parity : (i : ℕ) → suc i ≡ x .source .number → 0 < many → x .state .monitor .parity ≡ keptOf (seenIn (s .columns) (r .box i) .parity)
 
 module _ (s : Shape) (r : Run) (u : Runs s r) (place : ℕ) (g : Setting (r .expected))
-    (like : (j : ℕ) → Sent (s .columns) (r .expected) (r .box) place j) (chain : (j : ℕ) → Chained (s .columns) (r .expected) (r .box) j) (steps : 64 * s .step ≤ s .size)
+    (like : (j : ℕ) → 0 < j → Sent (s .columns) (r .expected) (r .box) place j) (chain : (j : ℕ) → 0 < j → Chained (s .columns) (r .expected) (r .box) j) (steps : 64 * s .step ≤ s .size)
   where
     -- the container that is current as the third unit has passed, by which the sink is locked
     since : ℕ
     since = numberAt s r u 3
+
+    -- by then the one that was under way as the run began has ended
+    since-some : 0 < since
+    unfolding since
+    since-some =
+        let few : 3 * s .step ≤ s .size = omega (arith, steps) in
+        omega (arith, ends-enough s r u 0 3 few)
 
     watching-on : (n : ℕ) → 3 ≤ n → Watching s r place since (pathAt s r n) → Watching s r place since (pathAt s r (suc n))
     watching-on n w h =
@@ -54,7 +61,7 @@ module _ (s : Shape) (r : Run) (u : Runs s r) (place : ℕ) (g : Setting (r .exp
         record {
           many = h .many + k;
           number-is = omega (arith, h .number-is, number-on s r u n);
-          near = rw (number-on s r u n, monitor-all s r u n w) (near-all (s .columns) (r .expected) (r .box) place (x .source .number) (h .many) k (x .state .monitor) g like (h .near));
+          near = rw (number-on s r u n, monitor-all s r u n w) (near-all (s .columns) (r .expected) (r .box) place (x .source .number) (h .many) k (x .state .monitor) g (λ j l. like j (omega (arith, since-some, h .number-is))) (h .near));
           parity = rw (number-on s r u n, monitor-all s r u n w) (parity-on (s .columns) (r .expected) (r .box) (x .source .number) (h .many) k (x .state .monitor) (h .parity));
         }
 
@@ -115,11 +122,11 @@ module _ (s : Shape) (r : Run) (u : Runs s r) (place : ℕ) (g : Setting (r .exp
               → violationsAll (s .columns) (r .expected) (pathAt s r n .state .monitor) (boxes (r .box) i (sentAt s r n .made .ended)) ≡ replicate (sentAt s r n .made .ended) 0
           go zero e h = absurd (omega (arith, some))
           go (suc i) e h =
-              none-violated-all (s .columns) (r .expected) (r .box) i (sentAt s r n .made .ended) (pathAt s r n .state .monitor) chain (h i refl some)
+              none-violated-all (s .columns) (r .expected) (r .box) i (sentAt s r n .made .ended) (pathAt s r n .state .monitor) (λ j l. chain j (omega (arith, since-some, some))) (h i refl some)
 
     -- ---- the count of unsettled units
 
-    at-most : (n : ℕ) → unsettled s r n ≤ n
+    at-most : (n : ℕ) → unsettled (receivedAt s r) n ≤ n
     unfolding unsettled
     at-most zero = omega arith
     at-most (suc n) = omega (arith, at-most n, one (fedAt s r n .received .settled))
@@ -128,16 +135,16 @@ module _ (s : Shape) (r : Run) (u : Runs s r) (place : ℕ) (g : Setting (r .exp
         one true = omega arith
         one false = omega arith
 
-    no-more : (j : ℕ) → unsettled s r (most + j) ≤ most
+    no-more : (j : ℕ) → unsettled (receivedAt s r) (most + j) ≤ most
     unfolding unsettled
     no-more zero = at-most most
     no-more (suc j) =
         rw (add-suc most j, settled-then (most + j) (omega arith)) (omega (arith, no-more j))
 
-    pub few-all : (n : ℕ) → unsettled s r n ≤ most
+    pub few-all : (n : ℕ) → unsettled (receivedAt s r) n ≤ most
     few-all n = go (leb n most) refl
       where
-        go : (b : Bool) → leb n most ≡ b → unsettled s r n ≤ most
+        go : (b : Bool) → leb n most ≡ b → unsettled (receivedAt s r) n ≤ most
         go true q = omega (arith, at-most n, leb-true n most q)
         go false q = let e : most + (n - most) ≡ n = omega (arith, leb-false n most q) in rw e at (no-more (n - most))
 
@@ -151,34 +158,29 @@ pub record InRange (s : Shape) (m : Making) (r : Run) : Type 0 where
   pub source-in : sources.InRange s (r .source)
   pub first-in : m .first .place ≤ 15
 
-pub settles : (noneBefore : ℕ) (s : Shape) (m : Making) (r : Run) → five ≤ noneBefore → Fit s → 64 * s .step ≤ s .size → InRange s m r → Good noneBefore s m r → Settles most s m r
+pub settles : (noneBefore : ℕ) (s : Shape) (m : Making) (r : Run) → five ≤ noneBefore → Fit s → 64 * s .step ≤ s .size → InRange s m r → Supplied s m r → Good noneBefore s m r → Settles most s r (logOf s m r)
 unfolding pathAt
-settles noneBefore s m r some f steps i g =
-    let place = m .first .place in
-    let box-is = g .box-is in
-    let made = made-done s f m (r .expected) (i .first-in) (g .label-fine) (g .trace-fine) (g .given) in
-    let full : (k : ℕ) → length (r .box k) ≡ s .size =
-    λ k. ap length (box-is k) ∙ box-full s f m (r .expected) (i .first-in) (g .label-fine) (g .trace-fine) (g .given) k
-    in
-    let like : (k : ℕ) → Sent (s .columns) (r .expected) (r .box) place k =
-    λ k. rw (box-is k) (box-like s f m (r .expected) (i .first-in) (g .label-fine) (g .trace-fine) (g .given) k)
-    in
-    let chain : (k : ℕ) → Chained (s .columns) (r .expected) (r .box) k =
-    λ k. rw (box-is (suc k), box-is k) (box-chained s f m (r .expected) (i .first-in) (g .label-fine) (g .trace-fine) (g .given) k)
-    in
+settles noneBefore s m r some f steps i box-is g =
+    let place = m .first .place + 15 in
+    let label-fine = g .fine .label-fine in
+    let trace-fine = g .fine .trace-fine in
+    let made = made-done s f m (r .expected) (i .first-in) label-fine trace-fine (g .given) in
+    let full = box-full s f m (r .expected) (i .first-in) label-fine trace-fine (g .given) (r .box) box-is (g .under-way) in
+    let like = box-like s f m (r .expected) (i .first-in) label-fine trace-fine (g .given) (r .box) box-is in
+    let chain = box-chained s f m (r .expected) (i .first-in) label-fine trace-fine (g .given) (r .box) box-is in
     let ready : Ready s r (pathAt s r 0) =
     record {
-      source-fine = record { offset-low = i .source-in .offset-low; wait-low = i .source-in .wait-low; full = full; unit-is = g .unit-is };
+      source-fine = record { offset-low = i .source-in .offset-low; wait-low = i .source-in .wait-low; full = full; unit-is = g .fine .unit-is };
       state-in = i .state-in;
       total-low = i .total-low;
       whole = i .whole;
-      held-is = g .held-is;
-      done-is = g .done-is;
+      held-is = g .fine .held-is;
+      done-is = g .fine .done-is;
     }
     in
-    let set : Settable r = record { label-fine = g .label-fine; trace-fine = g .trace-fine } in
+    let set : Settable r = record { label-fine = label-fine; trace-fine = trace-fine } in
     let u : Runs s r = record { fit = f; set = set; ready = ready; spaced = record { quiet = λ n l. g .spaced .quiet n (omega arith); apart = g .spaced .apart } } in
-    let e : Setting (r .expected) = setting (r .expected) (g .label-fine) (g .trace-fine) (g .trace-is) in
+    let e : Setting (r .expected) = setting (r .expected) label-fine trace-fine (g .fine .trace-is) in
     record {
       made-done = made;
       sent-done = sent-all s r u;
@@ -206,7 +208,7 @@ reached-in s m r f h =
 
 -- for every shape that fits, with no adjustment in the first five units or more
 pub demand : (noneBefore : ℕ) (s : Shape) → five ≤ noneBefore → Fit s → 64 * s .step ≤ s .size → Demand most noneBefore s
-demand noneBefore s some f steps m r h g = settles noneBefore s m r some f steps (reached-in s m r f h) g
+demand noneBefore s some f steps m r h = settles noneBefore s m r some f steps (reached-in s m r f h)
 
 -- DEMAND 3
 pub demand-3 : Demand3

@@ -1,9 +1,9 @@
 -- The containers of a container source that is given what is expected: no call of it is refused, each container is of the right length and carries what is expected, and its
--- B3 is the parity of the one before. Assumes nothing.
-use mathlib.Core.Path.{_≡_, sym, subst, _∙_}
+-- B3 is the parity of the one before. So of a run's containers after the one that is under way as it begins. Assumes nothing.
+use mathlib.Core.Path.{_≡_, sym, ap, subst, _∙_}
 use mathlib.Core.List.{List}
 use mathlib.Core.Bool.{false}
-use Prim.Native.Nat.{ℕ, suc, _≤_}
+use Prim.Native.Nat.{ℕ, zero, suc, _+_, _%_, _≤_, _<_}
 use native.Mathlib.Omega.{arith}
 use lib.ListN.{length}
 use Rattle.settings.specs.Settings.{labelRefused, traceRefused}
@@ -29,9 +29,6 @@ module _ (s : Shape) (f : Fit s) (m : Making) (e : Expected) (low : m .first .pl
     abbrev state : ℕ → State
     state k = stateAt s (m .first) (m .calls) k
 
-    abbrev box : ℕ → List ℕ
-    box k = containerAt s (m .first) (m .calls) k
-
     pub made-done : (k : ℕ) → outcomeAt s (m .first) (m .calls) k .sent .answer ≡ Done
     made-done k =
         let c = m .calls k in
@@ -46,14 +43,29 @@ module _ (s : Shape) (f : Fit s) (m : Making) (e : Expected) (low : m .first .pl
           violations-is = g .violations-low;
         })
 
-    pub box-full : (k : ℕ) → length (box k) ≡ s .size
-    box-full k = let c = m .calls k in length-sent s (state k) (c .given) (c .trace) (c .payload) (c .lent) f (made-done k)
+    pub made-full : (k : ℕ) → length (containerAt s (m .first) (m .calls) k) ≡ s .size
+    made-full k = let c = m .calls k in length-sent s (state k) (c .given) (c .trace) (c .payload) (c .lent) f (made-done k)
 
-    pub box-like : (k : ℕ) → Sent (s .columns) e box (m .first .place) k
-    box-like k =
-        let g = given k in
-        subst (λ (i : ℕ). Like e i (seenIn (s .columns) (box k))) (place-at s (m .first) (m .calls) (suc k) f (λ j _. made-done j) k (omega arith)) (sent-like s f (state k) (m .calls k) (made-done k) e (g .label-is) (g .trace-is) (g .no-remote))
+    -- ---- of a run: container 0 is another's
 
-    pub box-chained : (k : ℕ) → Chained (s .columns) e box k
-    unfolding stateAt
-    box-chained k = sent-b3 s f (state (suc k)) (m .calls (suc k)) (made-done (suc k)) ∙ sym (sent-parity s f (state k) (m .calls k) (made-done k))
+    module _ (box : ℕ → List ℕ) (box-is : (k : ℕ) → box (suc k) ≡ containerAt s (m .first) (m .calls) k) where
+      pub box-full : length (box 0) ≡ s .size → (k : ℕ) → length (box k) ≡ s .size
+      box-full under-way zero = under-way
+      box-full under-way (suc k) = ap length (box-is k) ∙ made-full k
+
+      -- the first call's place is that of container 1: 15 and one are a message
+      pub box-like : (k : ℕ) → 0 < k → Sent (s .columns) e box (m .first .place + 15) k
+      box-like zero l = absurd (omega arith)
+      box-like (suc k) l =
+          let g = given k in
+          let at = place-at s (m .first) (m .calls) (suc k) f (λ j _. made-done j) k (omega arith) in
+          let due : state k .place ≡ (m .first .place + 15 + suc k) % 16 = omega (arith, at) in
+          rw (box-is k)
+          (subst (λ (i : ℕ). Like e i (seenIn (s .columns) (containerAt s (m .first) (m .calls) k))) due (sent-like s f (state k) (m .calls k) (made-done k) e (g .label-is) (g .trace-is) (g .no-remote)))
+
+      pub box-chained : (k : ℕ) → 0 < k → Chained (s .columns) e box k
+      unfolding stateAt
+      box-chained zero l = absurd (omega arith)
+      box-chained (suc k) l =
+          rw (box-is (suc k), box-is k)
+          (sent-b3 s f (state (suc k)) (m .calls (suc k)) (made-done (suc k)) ∙ sym (sent-parity s f (state k) (m .calls k) (made-done k)))

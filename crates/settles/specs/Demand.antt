@@ -19,18 +19,26 @@ use Rattle.shape.specs.declared.Adjustment.the-variants.{Nothing}
 use Rattle.container.specs.Container.{payloadSize}
 use Rattle.container_source.specs.Source as container-source
 use Rattle.container_source.specs.declared.State as container-source-state
+use Rattle.container_source.specs.declared.Sent.{Sent}
 use Rattle.sending.specs.Run as sending
 use Rattle.unit_source.specs.Source as unit-source
 use Rattle.unit_source.specs.declared.State as unit-source-state
+use Rattle.unit_source.specs.declared.Made.{Made}
 use Rattle.stream.specs.Stream as stream
 use Rattle.together.specs.Together.{boxes, violationsTold}
 use Rattle.monitor.specs.declared.Expected.{Expected}
 use Rattle.report.specs.declared.Flags.{Flags}
 use Rattle.sink.specs.Sink as sink
 use Rattle.sink.specs.declared.State as sink-state
+use Rattle.sink.specs.declared.Received.{Received}
 use Rattle.reach.specs.Reach as reach
 
 -- ---- the run
+
+-- what the container source makes the containers of, from container 1 on: its state as the run begins, and what each call is given
+pub record Making : Type 0 where
+  pub first : container-source-state.State
+  pub calls : ℕ → sending.Call
 
 -- what a run is of: the containers in order and what is asked for each unit, the sink's settings, the unit source and the sink before it, the buffers that are lent
 pub record Run : Type 0 where
@@ -74,29 +82,68 @@ module _ (s : Shape) (r : Run) where
   pathAt zero = record { source = record { state = r .source; number = 0; unit = r .unit }; state = r .state; held = r .held; done = r .done }
   pathAt (suc n) = after (pathAt n) (r .ask n)
 
-  -- unit n as it is sent, what the sink makes of it, and the containers that this hands back
+  -- unit n as it is sent, and what the sink makes of it
   abbrev pub sentAt : ℕ → unit-source.Outcome
   sentAt n = sent (pathAt n) (r .ask n)
 
   abbrev pub fedAt : ℕ → sink.Outcome
   fedAt n = fed (pathAt n) (r .ask n)
 
+  -- the answers
+  abbrev pub madeAt : ℕ → Made
+  madeAt n = sentAt n .made
+
+  abbrev pub receivedAt : ℕ → Received
+  receivedAt n = fedAt n .received
+
+-- ---- what is seen of it
+
+-- whoever makes the calls sees what is kept from one to the next, and what is answered: the container source's state before its call k and its answer, the path before unit n
+-- and the answers of the unit source and of the sink
+pub record Log : Type 0 where
+  pub maker : ℕ → container-source-state.State
+  pub sent : ℕ → Sent
+  pub path : ℕ → Path
+  pub made : ℕ → Made
+  pub received : ℕ → Received
+
+-- the log of the run above
+abbrev pub logOf : Shape → Making → Run → Log
+logOf s m r =
+    record {
+      maker = sending.stateAt s (m .first) (m .calls);
+      sent = λ k. sending.outcomeAt s (m .first) (m .calls) k .sent;
+      path = pathAt s r;
+      made = madeAt s r;
+      received = receivedAt s r;
+    }
+
+-- how many of the first n units end unsettled
+unfoldable pub unsettled : (ℕ → Received) → ℕ → ℕ
+unsettled received zero = 0
+unsettled received (suc n) = unsettled received n + cond (received n .settled) 0 1
+
+-- how many containers the source says ended in m units from unit n on
+unfoldable pub endedFrom : (ℕ → Made) → ℕ → ℕ → ℕ
+endedFrom made n zero = 0
+endedFrom made n (suc m) = made n .ended + endedFrom made (suc n) m
+
+module _ (s : Shape) (r : Run) (path : ℕ → Path) (received : ℕ → Received) where
+  -- the call that fed unit n to the sink, and what it left
+  abbrev pub callAt : ℕ → reach.Call
+  callAt n = record { expected = r .expected; flags = r .flags; unit = path (suc n) .source .unit; held = path n .held; done = path n .done }
+
+  abbrev pub leftAt : ℕ → sink.Outcome
+  leftAt n = record { received = received n; held = path (suc n) .held; done = path (suc n) .done }
+
+  -- the containers that it hands back: those of which the answer tells, out of that unit and the done buffer
   abbrev pub handedAt : ℕ → List (List ℕ)
-  handedAt n = reach.handed s (feeding (pathAt n) (r .ask n)) (fedAt n)
+  handedAt n = reach.handed s (callAt n) (leftAt n)
 
-  -- how many of the first n units end unsettled
-  unfoldable pub unsettled : ℕ → ℕ
-  unsettled zero = 0
-  unsettled (suc n) = unsettled n + cond (fedAt n .received .settled) 0 1
-
-  -- what m units from unit n on hand back, and how many containers the source says ended in them
+  -- and those of m units from unit n on
   unfoldable pub handedFrom : ℕ → ℕ → List (List ℕ)
   handedFrom n zero = []
   handedFrom n (suc m) = handedAt n ++ handedFrom (suc n) m
-
-  unfoldable pub endedFrom : ℕ → ℕ → ℕ
-  endedFrom n zero = 0
-  endedFrom n (suc m) = sentAt n .made .ended + endedFrom (suc n) m
 
 -- ---- what is given
 
@@ -110,11 +157,6 @@ pub record Asked : Type 0 where
 unfoldable pub sourceAfter : Shape → unit-source-state.State → List Asked → unit-source-state.State
 sourceAfter s state [] = state
 sourceAfter s state (c ∷ cs) = sourceAfter s (unit-source.unitSource s state (c .request) (c .current) (c .next) (c .unit) .made .state) cs
-
--- what the container source makes the containers of: its state before the run, and what each call is given
-pub record Making : Type 0 where
-  pub first : container-source-state.State
-  pub calls : ℕ → sending.Call
 
 -- "in any state that calls can reach", the sink and both sources
 pub record Reached (s : Shape) (m : Making) (r : Run) : Type 0 where
@@ -140,45 +182,52 @@ pub record Spaced (noneBefore : ℕ) (ask : ℕ → Adjustment) : Type 0 where
   pub quiet : (n : ℕ) → n < noneBefore → ask n ≡ Nothing
   pub apart : (m n : ℕ) → m < n → unit-source.adjusts (ask m) ≡ true → unit-source.adjusts (ask n) ≡ true → m + 3 < n
 
--- a good signal
-pub record Good (noneBefore : ℕ) (s : Shape) (m : Making) (r : Run) : Type 0 where
-  -- "settings and buffer lengths that no number refuses"; a trace has 15 characters by its type
+-- "settings and buffer lengths that no number refuses"; a trace has 15 characters by its type
+pub record Fine (s : Shape) (r : Run) : Type 0 where
   pub label-fine : labelRefused (r .expected .label) ≡ false
   pub trace-fine : traceRefused (r .expected .trace) ≡ false
   pub trace-is : length (r .expected .trace) ≡ 15
   pub unit-is : length (r .unit) ≡ unitLength s
   pub held-is : length (r .held) ≡ s .size
   pub done-is : length (r .done) ≡ s .size
-  -- "one source, given its containers in order, that sends the label and trace expected": container k is the one that call k leaves
-  pub box-is : (k : ℕ) → r .box k ≡ sending.containerAt s (m .first) (m .calls) k
+
+-- "one source, given its containers in order": each after container 0 is the one that the container source's next call leaves
+abbrev pub Supplied : Shape → Making → Run → Type 0
+Supplied s m r = (k : ℕ) → r .box (suc k) ≡ sending.containerAt s (m .first) (m .calls) k
+
+-- a good signal
+pub record Good (noneBefore : ℕ) (s : Shape) (m : Making) (r : Run) : Type 0 where
+  pub fine : Fine s r
+  -- container 0 is under way as the run begins: it was made before, and its bytes may be any, of another label or trace too
+  pub under-way : length (r .box 0) ≡ s .size
   pub given : (k : ℕ) → Given s (r .expected) (m .calls k)
   pub spaced : Spaced noneBefore (r .ask)
 
 -- ---- what then holds
 
--- settles within so many units
-pub record Settles (within : ℕ) (s : Shape) (m : Making) (r : Run) : Type 0 where
+-- settles within so many units, by its log
+pub record Settles (within : ℕ) (s : Shape) (r : Run) (g : Log) : Type 0 where
   -- no call is refused, of either source or of the sink
-  pub made-done : (k : ℕ) → sending.outcomeAt s (m .first) (m .calls) k .sent .answer ≡ Done
-  pub sent-done : (n : ℕ) → sentAt s r n .made .answer ≡ Done
-  pub fed-done : (n : ℕ) → fedAt s r n .received .answer ≡ Done
+  pub made-done : (k : ℕ) → g .sent k .answer ≡ Done
+  pub sent-done : (n : ℕ) → g .made n .answer ≡ Done
+  pub fed-done : (n : ℕ) → g .received n .answer ≡ Done
   -- "At most 66 units of that run end unsettled"
-  pub few : (n : ℕ) → unsettled s r n ≤ within
+  pub few : (n : ℕ) → unsettled (g .received) n ≤ within
   -- "and the card's own unsettled total rises by exactly their number, up to its cap"
-  pub total-is : (n : ℕ) → pathAt s r n .state .total ≡ min (r .state .total + unsettled s r n) 65535
+  pub total-is : (n : ℕ) → g .path n .state .total ≡ min (r .state .total + unsettled (g .received) n) 65535
   -- "From the 67th unit on, each container that ends is handed back as sent, byte for byte": those that the source says ended in the unit
-  pub back : (n : ℕ) → within ≤ n → handedAt s r n ≡ boxes (r .box) (pathAt s r n .source .number) (sentAt s r n .made .ended)
+  pub back : (n : ℕ) → within ≤ n → handedAt s r (g .path) (g .received) n ≡ boxes (r .box) (g .path n .source .number) (g .made n .ended)
   -- "in order, none lost or doubled": and so in any units one after the other
-  pub in-order : (n units : ℕ) → within ≤ n → handedFrom s r n units ≡ boxes (r .box) (pathAt s r n .source .number) (endedFrom s r n units)
+  pub in-order : (n units : ℕ) → within ≤ n → handedFrom s r (g .path) (g .received) n units ≡ boxes (r .box) (g .path n .source .number) (endedFrom (g .made) n units)
   -- "with zero parity violations": one 0 for each
-  pub no-violations : (n : ℕ) → within ≤ n → violationsTold (fedAt s r n .received .ended) ≡ replicate (sentAt s r n .made .ended) 0
+  pub no-violations : (n : ℕ) → within ≤ n → violationsTold (g .received n .ended) ≡ replicate (g .made n .ended) 0
   -- "and no defect" at the end of the unit, which is settled
-  pub settled : (n : ℕ) → within ≤ n → fedAt s r n .received .settled ≡ true
-  pub no-defect : (n : ℕ) → within ≤ n → fedAt s r n .received .defects ≡ sink.noDefects
+  pub settled : (n : ℕ) → within ≤ n → g .received n .settled ≡ true
+  pub no-defect : (n : ℕ) → within ≤ n → g .received n .defects ≡ sink.noDefects
 
 -- of a shape: every run of a good signal, from any state that calls can reach
 abbrev pub Demand : ℕ → ℕ → Shape → Type 0
-Demand within noneBefore s = (m : Making) (r : Run) → Reached s m r → Good noneBefore s m r → Settles within s m r
+Demand within noneBefore s = (m : Making) (r : Run) → Reached s m r → Supplied s m r → Good noneBefore s m r → Settles within s r (logOf s m r)
 
 -- "At most 66 units"
 abbrev pub most : ℕ

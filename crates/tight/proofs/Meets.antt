@@ -5,7 +5,7 @@ use mathlib.Core.List.{List}
 use Prim.Native.Nat.{ℕ, zero, suc, _+_, _%_, _≤_, _<_}
 use native.Mathlib.Omega.{arith}
 use lib.Dec.{eqb}
-use lib.ListN.{replicate}
+use lib.ListN.{length, replicate}
 use borrow.Author.Tests.{eqb-true}
 use Rattle.laws.proofs.Tables.{every, every-at}
 use Rattle.parity.specs.Parity.{parityOf}
@@ -17,6 +17,7 @@ use Rattle.shape.specs.Shape as of-shape
 use Rattle.shape.specs.Shape.{au4}
 use Rattle.shape.specs.declared.Adjustment.{Adjustment}
 use Rattle.container.specs.Container.{rowsOf}
+use Rattle.container.proofs.Places.{length-container}
 use Rattle.container_source.specs.Overhead.{j1Of, g1Of, overheadOf}
 use Rattle.container_source.specs.Source as container-source
 use Rattle.container_source.specs.Source.{containerSent, stateAfter}
@@ -26,10 +27,14 @@ use Rattle.sending.proofs.Refused.{sendable-source, source-done}
 use Rattle.unit_source.specs.Source as unit-source
 use Rattle.sink.specs.declared.State as sink
 use Rattle.reach.specs.Reach as reach
-use Rattle.settles.specs.Demand.{Reached, Spaced, Good, sourceAfter}
+use Rattle.settles.specs.Demand.{Reached, Supplied, Spaced, Good, sourceAfter}
 use Rattle.tight.specs.Signal.{trace, given, container, call, callsFrom, making, asked, run}
 
 -- ---- the containers
+
+container-full : (place : ℕ) → length (container place) ≡ 2349
+unfolding containerSent overheadOf
+container-full place = length-container 261 (overheadOf (record { place = place; parity = 0 }) (given place) trace) (replicate 2340 0) (omega arith) refl refl
 
 -- the parity of each of the 16
 even : ℕ → Bool
@@ -78,32 +83,31 @@ module _ (p : ℕ) (low : p ≤ 15) where
 
 -- ---- the hypotheses
 
-module _ (place : ℕ) (low : place ≤ 15) (ask : ℕ → Adjustment) where
-  pub good : (noneBefore : ℕ) (state : sink.State) → Spaced noneBefore ask → Good noneBefore au4 (making place) (run place ask state)
+-- the container source stands one further than the container that is under way
+module _ (place : ℕ) (low : place ≤ 14) (ask : ℕ → Adjustment) where
+  pub supplied : (state : sink.State) → Supplied au4 (making (place + 1)) (run place ask state)
+  supplied state k = let e : (place + suc k) % 16 ≡ (place + 1 + k) % 16 = omega arith in ap container e ∙ container-is (place + 1) (omega arith) k
+
+  pub good : (noneBefore : ℕ) (state : sink.State) → Spaced noneBefore ask → Good noneBefore au4 (making (place + 1)) (run place ask state)
   unfolding call given trace labelRefused outside traceRefused
   good noneBefore state spaced =
       record {
-        label-fine = refl;
-        trace-fine = refl;
-        trace-is = refl;
-        unit-is = refl;
-        held-is = refl;
-        done-is = refl;
-        box-is = container-is place low;
+        fine = record { label-fine = refl; trace-fine = refl; trace-is = refl; unit-is = refl; held-is = refl; done-is = refl };
+        under-way = container-full ((place + 0) % 16);
         given = λ k. record { label-is = refl; trace-is = refl; no-remote = refl; violations-low = omega arith; payload-is = refl; container-is = refl };
         spaced = spaced;
       }
 
-  pub reached : (calls : List reach.Call) → Reached au4 (making place) (run place ask (reach.reached au4 calls))
+  pub reached : (calls : List reach.Call) → Reached au4 (making (place + 1)) (run place ask (reach.reached au4 calls))
   unfolding sourceAfter of-refusals.due of-refusals.outcome of-shape.downOf of-shape.offsetAfter unit-source.adjusts unit-source.outOfRange unit-source.makeFaults unit-source.waitAfter unit-source.stateAfter unit-source.unitSource
   reached calls =
-      let e : place ≡ (0 + place) % 16 = omega arith in
+      let e : place + 1 ≡ (0 + (place + 1)) % 16 = omega arith in
       record {
         received = calls;
         state-is = refl;
         asked = asked;
         source-is = refl;
         made = callsFrom 0;
-        many = place;
-        first-is = ap (λ (i : ℕ). record { place = i; parity = 0 }) e ∙ sym (state-is 0 (omega arith) place);
+        many = place + 1;
+        first-is = ap (λ (i : ℕ). record { place = i; parity = 0 }) e ∙ sym (state-is 0 (omega arith) (place + 1));
       }

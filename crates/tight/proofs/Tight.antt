@@ -12,12 +12,12 @@ use Rattle.shape.specs.declared.Adjustment.the-variants.{Nothing, Increment, De
 use Rattle.unit_source.specs.Source.{adjusts}
 use Rattle.sink.specs.Sink.{freshState}
 use Rattle.reach.specs.Reach as reach
-use Rattle.settles.specs.Demand.{Spaced, Settles, Demand, most, eight, unsettled}
+use Rattle.settles.specs.Demand.{Log, logOf, receivedAt, Spaced, Settles, Demand, most, eight, unsettled}
 use Rattle.settles.proofs.Settled.{demand-3}
 use Rattle.tight.specs.Signal.{making}
 use Rattle.tight.specs.Runs.{twice, worst, before, upAndDown, early}
 use Rattle.tight.proofs.Computed.{worst-total, early-before, early-total}
-use Rattle.tight.proofs.Meets.{good, reached}
+use Rattle.tight.proofs.Meets.{reached, supplied, good}
 
 -- ---- the worst run
 
@@ -43,25 +43,32 @@ twice-spaced =
           (twice-at m a);
     }
 
--- demand 3 holds of it
-pub worst-settles : Settles most au4 (making 14) worst
+abbrev log : Log
+log = logOf au4 (making 15) worst
+
+-- it meets all that the demand asks, within whatever number of units
+worst-by : (within : ℕ) → Demand within eight au4 → Settles within au4 worst log
 unfolding worst
-worst-settles = demand-3 (making 14) worst (reached 14 (omega arith) twice []) (good 14 (omega arith) twice eight (reach.reached au4 []) twice-spaced)
+worst-by within d =
+    d (making 15) worst (reached 14 (omega arith) twice []) (supplied 14 (omega arith) twice (reach.reached au4 [])) (good 14 (omega arith) twice eight (reach.reached au4 []) twice-spaced)
+
+-- demand 3 holds of it
+pub worst-settles : Settles most au4 worst log
+worst-settles = worst-by most demand-3
 
 -- whatever number of units it settles within, 66 have ended unsettled
-worst-unsettled : (within : ℕ) → Settles within au4 (making 14) worst → unsettled au4 worst 67 ≡ 66
+worst-unsettled : (within : ℕ) → Settles within au4 worst log → unsettled (receivedAt au4 worst) 67 ≡ 66
 unfolding worst reach.stateAfter freshState
 worst-unsettled within h = omega (arith, worst-total, h .total-is 67)
 
 -- EXACTLY 66
-pub exactly-66 : unsettled au4 worst 67 ≡ 66
+pub exactly-66 : unsettled (receivedAt au4 worst) 67 ≡ 66
 exactly-66 = worst-unsettled most worst-settles
 
 -- AND NOT 65
 pub not-65 : Demand 65 eight au4 → ⊥
-unfolding worst
 not-65 d =
-    let h = d (making 14) worst (reached 14 (omega arith) twice []) (good 14 (omega arith) twice eight (reach.reached au4 []) twice-spaced) in
+    let h = worst-by 65 d in
     omega (arith, worst-unsettled 65 h, h .few 67)
 
 -- ---- an adjustment in the fifth unit
@@ -95,5 +102,5 @@ up-and-down-spaced =
 pub not-four : Demand most 4 au4 → ⊥
 unfolding early
 not-four d =
-    let h = d (making 14) early (reached 14 (omega arith) upAndDown before) (good 14 (omega arith) upAndDown 4 (reach.reached au4 before) up-and-down-spaced) in
+    let h = d (making 15) early (reached 14 (omega arith) upAndDown before) (supplied 14 (omega arith) upAndDown (reach.reached au4 before)) (good 14 (omega arith) upAndDown 4 (reach.reached au4 before) up-and-down-spaced) in
     omega (arith, early-total, h .total-is 67, h .few 67, early-before)

@@ -35,7 +35,7 @@ given place = record { label = 0x12; unexamined = record { f2 = bitXor (j1Of pla
 abbrev pub container : ℕ → List ℕ
 container place = containerSent au4 (record { place = place; parity = 0 }) (given place) trace (replicate 2340 0)
 
--- the calls that make them, one after the other, from this place on
+-- the calls that make them one after the other, the first of them at this place
 unfoldable pub call : ℕ → sending.Call
 call place = record { given = given place; trace = trace; payload = replicate 2340 0; lent = replicate 2349 0 }
 
@@ -47,7 +47,7 @@ making place = record { first = record { place = place; parity = 0 }; calls = ca
 
 -- ---- the run
 
--- the unit source has gone down from 0 to 782
+-- container 0 is at this place. The unit source has gone down from 0 to 782
 abbrev pub asked : List Asked
 asked = record { request = Decrement; current = replicate 2349 0; next = replicate 2349 0; unit = replicate 2358 0 } ∷ []
 
