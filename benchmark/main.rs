@@ -3,7 +3,7 @@
 //!
 //! Beside the proved code stand (a) the core of the second program made fast (second/fast.rs: plain Rust that changes its state in place), its plain core, and
 //! (b) the limit: one parity and one copy of 2349 bytes by the best plain code, the fast core's parity and memcpy. 01 has a container that is completed copied more than once (held bytes, the
-//! continuation, what is held next): "the bytes of this run" is one parity and just these copies.
+//! continuation, what is held next): "the copies of this run" beside one parity are just these. One hot sink is the best case; 100 and 1000 in turn stand beside it.
 //!
 //! Links libcard.a, libprobe.a, libprobe_sources.a and libprobe_sink.a; built and run by benchmark/run.
 
@@ -29,6 +29,8 @@ const UNITS_A_SECOND: f64 = 8000.0;
 
 const LABEL: u8 = 0x12;
 const TRACE: [u8; 15] = *b"03E5           ";
+const EXPECTED: second::Expected =
+    second::Expected { label: LABEL, trace: TRACE, monitored: true, rdi_reported: true, ssf_reported: true, ais_reported: true };
 
 #[inline(never)]
 fn plain_parity(b: &[u8]) -> u8 {
@@ -156,6 +158,11 @@ struct Run {
     copied: Vec<usize>,
 }
 
+/// The bytes of a container that are held where it begins at this offset.
+fn held_count(offset: u16) -> usize {
+    if offset == 0 { 0 } else { CONTAINER - 3 * usize::from(offset) }
+}
+
 /// Units of one source at this offset, with an adjustment asked for in every fourth where `adjusting`: up, and down again.
 fn run(offset: u16, adjusting: bool) -> Run {
     let given = second::Given { label: LABEL, f2: 1, h4: 2, f3: 3, k3: 4, n1: 5, violations: 0, remote: false };
@@ -177,13 +184,12 @@ fn run(offset: u16, adjusting: bool) -> Run {
             (true, _) => second::Asked::Decrement,
         };
         let mut unit = vec![0; UNIT];
-        let held = |offset: u16| if offset == 0 { 0 } else { CONTAINER - 3 * usize::from(offset) };
-        let before = held(source.offset);
+        let before = held_count(source.offset);
         let (ended, after) = second::unit_source(source, asked, &queue[0], &queue[1], &mut unit).expect("a unit");
         source = after;
         queue.drain(..usize::from(ended));
         // a container begun earlier is completed: the held bytes, and the others from the unit; what is left is held
-        made.copied.push(if before > 0 { CONTAINER } else { 0 } + held(source.offset));
+        made.copied.push(if before > 0 { CONTAINER } else { 0 } + held_count(source.offset));
         made.units.push(unit);
     }
     made
@@ -193,9 +199,12 @@ fn flags() -> c::Flags {
     c::Flags { monitored: true, rdi: true, ssf: true, ais: true }
 }
 
+fn carries(took: f64) {
+    println!("    {:<44} {:>11.0} VC-4", "one core carries, at 8000 units a second", 1e9 / UNITS_A_SECOND / took);
+}
+
 /// A run on a sink that the same run has settled, so that nothing but the units differs between calls.
 fn sinks(what: &str, run: &Run) {
-    let expected = second::Expected { label: LABEL, trace: TRACE, monitored: true, rdi_reported: true, ssf_reported: true, ais_reported: true };
     let n = run.units.len() as f64;
     // the same buffers for all, so that none has a better place in memory than another
     let (held, done) = (RefCell::new(vec![0u8; CONTAINER]), RefCell::new(vec![0u8; CONTAINER]));
@@ -209,13 +218,13 @@ fn sinks(what: &str, run: &Run) {
     let fast_turn = |s: &mut second::Sink| {
         let (mut held, mut done) = (held.borrow_mut(), done.borrow_mut());
         for unit in &run.units {
-            let _ = black_box(fast::sink(s, &expected, unit, &mut held, &mut done));
+            let _ = black_box(fast::sink(s, &EXPECTED, unit, &mut held, &mut done));
         }
     };
     let plain_turn = |mut s: second::Sink| {
         let (mut held, mut done) = (held.borrow_mut(), done.borrow_mut());
         for unit in &run.units {
-            match second::sink(&s, &expected, unit, &mut held, &mut done, &mut |_| {}) {
+            match second::sink(&s, &EXPECTED, unit, &mut held, &mut done, &mut |_| {}) {
                 Ok((after, answer)) => {
                     black_box(answer);
                     s = after;
@@ -261,12 +270,93 @@ fn sinks(what: &str, run: &Run) {
             })),
         ],
     );
-    println!("    {:<44} {:>11.0} VC-4", "one core carries, at 8000 units a second", 1e9 / UNITS_A_SECOND / took);
+    carries(took);
 }
 
 fn all_ones() {
     let run = Run { units: vec![vec![0xFF; UNIT]; 160], copied: vec![0; 160] };
     sinks("sink, all ones (nothing is copied, no parity is taken)", &run);
+}
+
+// ---- many sinks in turn
+
+/// The buffers of sinks that take their units in turn, one after another in memory; where they share a done buffer there is one.
+struct Port {
+    count: usize,
+    held: Vec<u8>,
+    done: Vec<u8>,
+    shared: bool,
+}
+
+impl Port {
+    fn new(count: usize, shared: bool) -> Port {
+        Port { count, held: vec![0; count * CONTAINER], done: vec![0; if shared { 1 } else { count } * CONTAINER], shared }
+    }
+
+    /// Each sink takes its next unit, `rounds` times. The first is at the unit `at`, and each one further than the sink before it.
+    fn play(&mut self, run: &Run, at: &Cell<usize>, rounds: usize, call: &mut dyn FnMut(usize, &[u8], &mut [u8], &mut [u8])) {
+        let next = |place: usize| if place + 1 < run.units.len() { place + 1 } else { 0 };
+        for _ in 0..rounds {
+            let mut place = at.get();
+            at.set(next(place));
+            for k in 0..self.count {
+                let own = if self.shared { 0 } else { k };
+                call(k, &run.units[place], &mut self.held[k * CONTAINER..][..CONTAINER], &mut self.done[own * CONTAINER..][..CONTAINER]);
+                place = next(place);
+            }
+        }
+    }
+}
+
+/// Of one sink that is called again and again, state and buffers lie in the nearest cache. Of many in turn they do not.
+fn sinks_in_turn(offset: u16, count: usize, shared: bool) {
+    let run = run(offset, false);
+    let rounds = 16_000 / count;
+    // the same buffers for all, so that none has a better place in memory than another
+    let port = RefCell::new(Port::new(count, shared));
+    let states = RefCell::new(vec![proved::fresh_sink(); count]);
+    let fast_states = RefCell::new(vec![second::Sink::fresh(); count]);
+    let (at, fast_at, plain_at) = (Cell::new(0), Cell::new(0), Cell::new(0));
+    let proved_turn = |rounds: usize| {
+        let mut states = states.borrow_mut();
+        port.borrow_mut().play(&run, &at, rounds, &mut |k, unit, held, done| {
+            states[k] = proved::sink(states[k], LABEL, &TRACE, flags(), unit, held, done).state;
+        });
+    };
+    let fast_turn = |rounds: usize| {
+        let mut states = fast_states.borrow_mut();
+        port.borrow_mut().play(&run, &fast_at, rounds, &mut |k, unit, held, done| {
+            let _ = black_box(fast::sink(&mut states[k], &EXPECTED, unit, held, done));
+        });
+    };
+    let kept = held_count(offset);
+    let plain_turn = |rounds: usize| {
+        port.borrow_mut().play(&run, &plain_at, rounds, &mut |_, unit, held, done| {
+            if kept == 0 {
+                // it lies inside the unit
+                black_box(fast::parity(&unit[9..]));
+                return;
+            }
+            memcpy(&held[..kept], &mut done[..kept]);
+            memcpy(&unit[9..9 + CONTAINER - kept], &mut done[kept..]);
+            black_box(fast::parity(done));
+            memcpy(&unit[UNIT - kept..], &mut held[..kept]);
+        });
+    };
+    proved_turn(run.units.len());
+    fast_turn(run.units.len());
+    assert!(states.borrow().iter().zip(fast_states.borrow().iter()).all(|(s, f)| s.total == f.unsettled && s.held == usize::from(f.held)));
+    let timed = |turn: &dyn Fn(usize)| once(1, &mut || turn(rounds)) / (rounds * count) as f64;
+    let took = show(
+        &format!("sinks in turn, {count} of them, {}, plain units at offset {offset}", if shared { "one done buffer for all" } else { "each with its own" }),
+        TURNS / 10,
+        &mut [
+            ("proved", &mut || timed(&proved_turn)),
+            ("(a) second program, fast", &mut || timed(&fast_turn)),
+            ("one parity and the copies of this run", &mut || timed(&plain_turn)),
+        ],
+    );
+    carries(took);
 }
 
 // ---- the sources
@@ -465,6 +555,11 @@ fn main() {
     }
     sinks("sink, an adjustment in every fourth unit, about offset 400", &run(400, true));
     all_ones();
+    for offset in [0, 1, 400, 782] {
+        for (count, shared) in [(1, false), (100, false), (1000, false), (100, true), (1000, true)] {
+            sinks_in_turn(offset, count, shared);
+        }
+    }
     sources();
     parts();
     catalogues();

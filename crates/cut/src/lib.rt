@@ -75,7 +75,7 @@ fn complete(shape: Shape, kept: usize, from: usize, unit: &[u8], held: &[u8], do
         return;
     }
     let e = from + (shape.size - kept);
-    copier::copy(&held[..kept], &mut done[..kept]);
+    copier::copy_long(&held[..kept], &mut done[..kept]);
     copier::copy_part(&unit[from..e], &mut done[kept..], kept);
 }
 
@@ -84,7 +84,7 @@ fn keep(begin: usize, left: usize, unit: &[u8], held: &mut [u8])
     requires { ⌜ (length (now unit) ≡ begin + left) × (left ≤ length (now held)) ⌝ }
     ensures { λ _. ⌜ now (held .exit) ≡ drop begin (now (unit .entry)) ++ drop left (now (held .entry)) ⌝ }
 {
-    copier::copy(&unit[begin..], &mut held[..left]);
+    copier::copy_long(&unit[begin..], &mut held[..left]);
 }
 
 // One unit: its cut, and both buffers after it.

@@ -66,6 +66,8 @@ use Rattle.copier.proofs.copy.Kinds as copier-copy
 use Rattle.copier.proofs.copy.Reads as copier-copy-promise
 use Rattle.copier.proofs.fill.Kinds as copier-fill
 use Rattle.copier.proofs.fill.Reads as copier-fill-promise
+use Rattle.copier.proofs.copy_long.Kinds as copier-copy-long
+use Rattle.copier.proofs.copy_long.Reads as copier-copy-long-promise
 use Rattle.copier.proofs.copy_part.Kinds as copier-copy-part
 use Rattle.copier.proofs.copy_part.Reads as copier-copy-part-promise
 use Rattle.copier.proofs.copy_at.Kinds as copier-copy-at
@@ -218,6 +220,9 @@ copier-copy-determined κs a x y s t p q = p ∙ sym q
 
 pub copier-fill-determined : Determines {O = List ℕ} 1 copier-fill.ps copier-fill.r copier-fill-promise.Post (λ κs r e. now (e .0))
 copier-fill-determined κs a x y s t p q = p ∙ sym q
+
+pub copier-copy-long-determined : Determines {O = List ℕ} 2 copier-copy-long.ps copier-copy-long.r copier-copy-long-promise.Post (λ κs r e. now (e .1 .0))
+copier-copy-long-determined κs a x y s t p q = p ∙ sym q
 
 pub copier-copy-part-determined : Determines {O = List ℕ} 2 copier-copy-part.ps copier-copy-part.r copier-copy-part-promise.Post (λ κs r e. now (e .1 .0))
 copier-copy-part-determined κs a x y s t p q = p ∙ sym q

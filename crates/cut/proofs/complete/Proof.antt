@@ -15,17 +15,17 @@ sub-e c = search needs
 add-e : tie.Need-add-e
 add-e c = search needs
 
-slice-aggregate-copy : tie.Need-slice-aggregate-copy
-slice-aggregate-copy c = simp length-take (omega arith)
+slice-aggregate-copy-long : tie.Need-slice-aggregate-copy-long
+slice-aggregate-copy-long c = simp length-take (omega arith)
 
-slice-relend-prefix-copy : tie.Need-slice-relend-prefix-copy
-slice-relend-prefix-copy c = search needs
+slice-relend-prefix-copy-long : tie.Need-slice-relend-prefix-copy-long
+slice-relend-prefix-copy-long c = search needs
 
-slice-aggregate-copy-2 : tie.Need-slice-aggregate-copy-2
-slice-aggregate-copy-2 c = simp length-take (omega arith)
+slice-aggregate-copy-long-2 : tie.Need-slice-aggregate-copy-long-2
+slice-aggregate-copy-long-2 c = simp length-take (omega arith)
 
-copy-requires : tie.Need-copy-requires
-copy-requires c κs = simp length-take (omega arith)
+copy-long-requires : tie.Need-copy-long-requires
+copy-long-requires c κs = simp length-take (omega arith)
 
 sub-copy-part : tie.Need-sub-copy-part
 sub-copy-part c = search needs
@@ -61,10 +61,10 @@ complete-spec =
     returns
     sub-e
     add-e
-    slice-aggregate-copy
-    slice-relend-prefix-copy
-    slice-aggregate-copy-2
-    copy-requires
+    slice-aggregate-copy-long
+    slice-relend-prefix-copy-long
+    slice-aggregate-copy-long-2
+    copy-long-requires
     sub-copy-part
     part-copy-part-start
     part-copy-part-end

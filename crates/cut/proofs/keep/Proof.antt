@@ -6,23 +6,23 @@ use borrow.Author.Needs.{needs}
 use Rattle.cut.proofs.keep.Statement.{statement}
 use Rattle.cut.proofs.keep.Tie as tie
 
-sub-copy : tie.Need-sub-copy
-sub-copy c = search needs
+sub-copy-long : tie.Need-sub-copy-long
+sub-copy-long c = search needs
 
-part-copy-start : tie.Need-part-copy-start
-part-copy-start c = search needs
+part-copy-long-start : tie.Need-part-copy-long-start
+part-copy-long-start c = search needs
 
-part-copy-end : tie.Need-part-copy-end
-part-copy-end c = search needs
+part-copy-long-end : tie.Need-part-copy-long-end
+part-copy-long-end c = search needs
 
-slice-relend-prefix-copy : tie.Need-slice-relend-prefix-copy
-slice-relend-prefix-copy c = search needs
+slice-relend-prefix-copy-long : tie.Need-slice-relend-prefix-copy-long
+slice-relend-prefix-copy-long c = search needs
 
-slice-aggregate-copy : tie.Need-slice-aggregate-copy
-slice-aggregate-copy c = simp length-take (omega arith)
+slice-aggregate-copy-long : tie.Need-slice-aggregate-copy-long
+slice-aggregate-copy-long c = simp length-take (omega arith)
 
-copy-requires : tie.Need-copy-requires
-copy-requires c κs = simp (length-take, length-drop) (omega arith)
+copy-long-requires : tie.Need-copy-long-requires
+copy-long-requires c κs = simp (length-take, length-drop) (omega arith)
 
 same-length : tie.Need-same-length
 same-length c = search needs
@@ -34,11 +34,11 @@ pub keep-spec : {M : Type 1} → statement M
 keep-spec =
     tie.close
     (tie.spec
-    sub-copy
-    part-copy-start
-    part-copy-end
-    slice-relend-prefix-copy
-    slice-aggregate-copy
-    copy-requires
+    sub-copy-long
+    part-copy-long-start
+    part-copy-long-end
+    slice-relend-prefix-copy-long
+    slice-aggregate-copy-long
+    copy-long-requires
     same-length
     returns)
