@@ -13,6 +13,9 @@ use Rattle.unit_source.specs.declared.Made.{Made}
 use Rattle.stream.specs.Stream as stream
 use Rattle.sink.specs.Sink as sink
 use Rattle.settles.specs.Demand.{Run, Path, Making, Log, Supplied, Settles, Demand, most, eight, sent, fed, after, pathAt, madeAt, receivedAt, logOf}
+use Rattle.container_source.proofs.SourceLaws.{send-said}
+use Rattle.unit_source.proofs.Answers.{make-said}
+use Rattle.sink.proofs.Feeds.{feed-said}
 use Rattle.settles.specs.Host.{Host, HostDemand, HostDemand3}
 use Rattle.settles.proofs.Settled.{demand-3}
 
@@ -20,15 +23,15 @@ module _ (s : Shape) (m : Making) (r : Run) (g : Log) (h : Host s m r g) where
   -- ---- what the promises say
 
   sent-outcome : (k : ℕ) → record { sent = g .sent k; container = r .box (suc k) } ≡ sending.called s (g .maker k) (m .calls k)
-  sent-outcome k = h .sends k
+  sent-outcome k = h .sends k .outcome-is
 
   made-outcome : (n : ℕ) → record { made = g .made n; unit = g .path (suc n) .source .unit } ≡ sent s r (g .path n) (r .ask n)
-  made-outcome n = h .makes n
+  made-outcome n = h .makes n .outcome-is
 
   received-outcome : (n : ℕ)
       → record { received = g .received n; held = g .path (suc n) .held; done = g .path (suc n) .done }
       ≡ sink.sink s (g .path n .state) (r .expected) (r .flags) (g .path (suc n) .source .unit) (g .path n .held) (g .path n .done)
-  received-outcome n = h .receives n
+  received-outcome n = h .receives n .outcome-is
 
   -- ---- the containers
 
@@ -97,12 +100,12 @@ host-exists s m r box-is =
     record {
       maker-first = refl;
       path-first = refl;
-      sends = λ k. rw (box-is k) refl;
+      sends = λ k. send-said _ _ _ _ _ _ _ _ (rw (box-is k) refl);
       maker-next = λ k. refl;
-      makes = λ n. refl;
+      makes = λ n. make-said _ _ _ _ _ _ _ _ refl;
       source-next = λ n. refl;
       number-next = λ n. refl;
-      receives = λ n. refl;
+      receives = λ n. feed-said _ _ _ _ _ _ _ _ _ _ refl;
       state-next = λ n. refl;
     }
 
