@@ -1,5 +1,5 @@
 -- The promises of the sink, and of all that it rests on, allow one outcome each: the answer, the new state and every byte that was lent, refused calls too.
--- Determined.antt says how this is read off the contracts; of `view::of` alone it is said of what its contract cites. Assumes nothing.
+-- Determined.antt says how this is read off the contracts; of `view::of` and `view::container` it is said of what their contracts cite. Assumes nothing.
 use mathlib.Core.Path.{_≡_, sym, _∙_}
 use mathlib.Core.Bool.{Bool}
 use mathlib.Core.List.{List}
@@ -11,8 +11,6 @@ use Rattle.reading.specs.declared.Taken.{Taken}
 use Rattle.pointer.specs.declared.Pointer.{Pointer}
 use Rattle.pointer.specs.declared.After.{After}
 use Rattle.cut.specs.declared.Cut.{Cut}
-use Rattle.view.specs.View.{Views}
-use Rattle.view.proofs.Parts.{one-view}
 use Rattle.overhead.specs.declared.Label.{Label}
 use Rattle.overhead.specs.declared.Defect.{Defect}
 use Rattle.message.specs.declared.Trace.{Trace}
@@ -24,7 +22,10 @@ use Rattle.report.specs.declared.Defects.{Defects}
 use Rattle.report.specs.declared.Actions.{Actions}
 use Rattle.report.specs.declared.Causes.{Causes}
 use Rattle.receiving.specs.Receiving.{Leaving}
+use Rattle.receiving.specs.declared.Ended.{Ended}
 use Rattle.receiving.specs.declared.Left.{Left}
+use Rattle.view.specs.View.{containerOf, Views}
+use Rattle.view.proofs.Parts.{one-view}
 use Rattle.sink.specs.Sink.{Outcome}
 use Rattle.sink.specs.declared.State.{State}
 use Rattle.probe_sink.specs.Probe.{Probed}
@@ -161,13 +162,6 @@ unit-cut-same x y z = rw (x, y, z)
 pub cut-unit-determined : Determines {O = UnitCut} 3 cut-unit.ps cut-unit.r cut-unit-promise.Post (λ κs r e. record { cut = r; held = now (e .1 .1 .1 .1 .0); done = now (e .1 .1 .1 .1 .1 .0) })
 cut-unit-determined κs a x y s t p q = unit-cut-same (p .cut-is ∙ sym (q .cut-is)) (p .held-is ∙ sym (q .held-is)) (p .done-is ∙ sym (q .done-is))
 
--- ---- view
-
--- a view holds two lent slices: `of` is proved by a walk, and has no `Post` to be read. Its `ensures` is `Views` of the bytes of both, and of that this is said
-pub view-of-determined : (done unit : List ℕ) (completed inside : Bool) (place size : ℕ) (first second first′ second′ : List ℕ)
-    → Views done unit completed inside place size first second → Views done unit completed inside place size first′ second′ → (first ≡ first′) × (second ≡ second′)
-view-of-determined = one-view
-
 -- ---- overhead
 
 pub overhead-violations-determined : Determines {O = ℕ} 0 overhead-violations.ps overhead-violations.r overhead-violations-promise.Post (λ κs r e. r)
@@ -237,6 +231,17 @@ receiving-silence-determined κs a x y s t p q = p ∙ sym q
 
 pub receiving-receive-determined : Determines {O = Leaving} 3 receiving-receive.ps receiving-receive.r receiving-receive-promise.Post (λ κs r e. record { left = r; held = now (e .1 .1 .1 .1 .1 .1 .1 .0); done = now (e .1 .1 .1 .1 .1 .1 .1 .1 .0) })
 receiving-receive-determined κs a x y s t p q = p ∙ sym q
+
+-- ---- view
+
+-- a view holds two lent slices: `of`, which makes it, and `container`, which reads it, are proved by walks, and have no `Post` to be read. The `ensures` of `of` is `Views` of the
+-- bytes of both slices, that of `container` an equation with `containerOf`, and of these this is said
+pub view-of-determined : (e : Ended) (size : ℕ) (done unit first second first′ second′ : List ℕ)
+    → Views e size done unit first second → Views e size done unit first′ second′ → (first ≡ first′) × (second ≡ second′)
+view-of-determined = one-view
+
+pub view-container-determined : (e : Ended) (size : ℕ) (done unit : List ℕ) (k : ℕ) (x y : List ℕ) → x ≡ containerOf e size done unit k → y ≡ containerOf e size done unit k → x ≡ y
+view-container-determined e size done unit k x y p q = p ∙ sym q
 
 -- ---- sink
 

@@ -16,7 +16,7 @@ use Rattle.cut.specs.Cut.{Line, Sizes, cutOf, completedOf, insidePart, oneIf, e
 use Rattle.cut.specs.declared.Cut.{Cut}
 use Rattle.cut.proofs.Within.{inside-fits}
 use Rattle.cut.proofs.Outcome.{done-length}
-use Rattle.view.specs.View.{partOf}
+use Rattle.view.specs.View.{partOf, inOrder}
 use Rattle.view.proofs.Parts.{part-whole, part-fits}
 use Rattle.receiving.specs.Receiving.{beginIn, cutIn, endedIn, bothSeen, received, silence, Receivable}
 use Rattle.sink.specs.Sink.{Outcome, pointed, leaving, told, refusing, sink, Fed, Pointed}
@@ -71,7 +71,7 @@ module _ (s : Shape) (f : Fit s) (state : State) (c : Call) (d : called s state 
 
     -- WHAT IS HANDED BACK IS WHAT ENDED: in this order, each in its place
     pub handed-normal : handed s c (called s state c) ≡ endedOf s k (c .unit) (c .held)
-    unfolding handed told leaving received bothSeen endedIn endedOf
+    unfolding handed inOrder told leaving received bothSeen endedIn endedOf
     handed-normal =
         let b = beginIn s (a .taken) (offsetOf (a .pointer .state)) (state .held) in
         let long = done-length s (b .kept) (b .from) (c .unit) (c .held) (c .done) (can .line) (can .sizes) in
@@ -80,12 +80,12 @@ module _ (s : Shape) (f : Fit s) (state : State) (c : Call) (d : called s state 
 
   -- nothing in alarm or lost
   pub handed-silent : isNormal (a .pointer .state) ≡ false → handed s c (called s state c) ≡ []
-  unfolding handed told leaving silence
+  unfolding handed inOrder told leaving silence
   handed-silent n = rw (called-is, n) refl
 
 -- nothing where it refuses
 pub handed-refused : (s : Shape) (state : State) (c : Call) (x : Refusal) → called s state c .received .answer ≡ Refused x → handed s c (called s state c) ≡ []
-unfolding handed sink told refusing silence
+unfolding handed inOrder sink told refusing silence
 handed-refused s state c x =
     outcome-by (λ (o : Outcome). o .received .answer ≡ Refused x → handed s c o ≡ []) (faults s state c)
     (λ h. absurd (done-not-refused x h))
