@@ -1,5 +1,5 @@
 -- The promises of the sink, and of all that it rests on, allow one outcome each: the answer, the new state and every byte that was lent, refused calls too.
--- Determined.antt says how this is read off the contracts; of `view::of` and `view::container` it is said of what their contracts cite. Assumes nothing.
+-- Determined.antt says how this is read off the contracts; of `view::of` alone it is said of what its contract cites. Assumes nothing.
 use mathlib.Core.Path.{_≡_, sym, _∙_}
 use mathlib.Core.Bool.{Bool}
 use mathlib.Core.List.{List}
@@ -24,11 +24,11 @@ use Rattle.report.specs.declared.Causes.{Causes}
 use Rattle.receiving.specs.Receiving.{Leaving}
 use Rattle.receiving.specs.declared.Ended.{Ended}
 use Rattle.receiving.specs.declared.Left.{Left}
-use Rattle.view.specs.View.{containerOf, Views}
+use Rattle.view.specs.View.{Views}
 use Rattle.view.proofs.Parts.{one-view}
 use Rattle.sink.specs.Sink.{Outcome}
 use Rattle.sink.specs.declared.State.{State}
-use Rattle.probe_sink.specs.Probe.{Probed}
+use Rattle.probe_sink.specs.Probe.{Probed, Written}
 use Rattle.probe_sink.specs.declared.Plain.{Plain}
 use Rattle.promises.proofs.Determined.{Determines}
 use Rattle.counts.proofs.one_more.Kinds as counts-one-more
@@ -97,6 +97,8 @@ use Rattle.receiving.proofs.silence.Kinds as receiving-silence
 use Rattle.receiving.proofs.silence.Reads as receiving-silence-promise
 use Rattle.receiving.proofs.receive.Kinds as receiving-receive
 use Rattle.receiving.proofs.receive.Reads as receiving-receive-promise
+use Rattle.view.proofs.container.Kinds as view-container
+use Rattle.view.proofs.container.Reads as view-container-promise
 use Rattle.sink.proofs.fresh.Kinds as sink-fresh
 use Rattle.sink.proofs.fresh.Reads as sink-fresh-promise
 use Rattle.sink.proofs.sink.Kinds as sink
@@ -105,6 +107,8 @@ use Rattle.probe_sink.proofs.probe_fresh_sink.Kinds as probe-fresh-sink
 use Rattle.probe_sink.proofs.probe_fresh_sink.Reads as probe-fresh-sink-promise
 use Rattle.probe_sink.proofs.probe_sink.Kinds as probe-sink
 use Rattle.probe_sink.proofs.probe_sink.Reads as probe-sink-promise
+use Rattle.probe_sink.proofs.probe_handed.Kinds as probe-handed
+use Rattle.probe_sink.proofs.probe_handed.Reads as probe-handed-promise
 
 -- ---- counts
 
@@ -234,14 +238,13 @@ receiving-receive-determined κs a x y s t p q = p ∙ sym q
 
 -- ---- view
 
--- a view holds two lent slices: `of`, which makes it, and `container`, which reads it, are proved by walks, and have no `Post` to be read. The `ensures` of `of` is `Views` of the
--- bytes of both slices, that of `container` an equation with `containerOf`, and of these this is said
+-- a view holds two lent slices: `of` is proved by a walk, and has no `Post` to be read. Its `ensures` is `Views` of the bytes of both, and of that this is said
 pub view-of-determined : (e : Ended) (size : ℕ) (done unit first second first′ second′ : List ℕ)
     → Views e size done unit first second → Views e size done unit first′ second′ → (first ≡ first′) × (second ≡ second′)
 view-of-determined = one-view
 
-pub view-container-determined : (e : Ended) (size : ℕ) (done unit : List ℕ) (k : ℕ) (x y : List ℕ) → x ≡ containerOf e size done unit k → y ≡ containerOf e size done unit k → x ≡ y
-view-container-determined e size done unit k x y p q = p ∙ sym q
+pub view-container-determined : Determines {O = List ℕ} 1 view-container.ps view-container.r view-container-promise.Post (λ κs r e. now r)
+view-container-determined κs a x y s t p q = p ∙ sym q
 
 -- ---- sink
 
@@ -258,3 +261,6 @@ probe-fresh-sink-determined κs a x y s t p q = p ∙ sym q
 
 pub probe-sink-determined : Determines {O = Probed} 4 probe-sink.ps probe-sink.r probe-sink-promise.Post (λ κs r e. record { shown = r; held = now (e .1 .1 .1 .1 .1 .0); done = now (e .1 .1 .1 .1 .1 .1 .0) })
 probe-sink-determined κs a x y s t p q = p ∙ sym q
+
+pub probe-handed-determined : Determines {O = Written} 2 probe-handed.ps probe-handed.r probe-handed-promise.Post (λ κs r e. record { number = r; bytes = now (e .1 .1 .1 .1 .0) })
+probe-handed-determined κs a x y s t p q = p ∙ sym q
