@@ -31,31 +31,30 @@ fn say_state(s: reading::State) {
     }
 }
 
-// One container that ended: its bytes, as the view has them, and what is told of it.
-fn say_container(container: &[u8], told: Told) {
-    say::text(b",");
-    say::fnv(container);
-    say::text(b",v=");
-    say::decimal(told.violations as u64);
-    say::text(b",fe=");
-    say::decimal(told.returned as u64);
-}
-
-// It is kept, since the buffer that it lies in will be written again.
+// A container is kept, since the buffer that it lies in will be written again.
 fn keep(container: &[u8], last: &mut [u8]) {
     if container.len() == last.len() {
         copier::copy(container, last);
     }
 }
 
+// One container that ended: its bytes, as the view has them, and what is told of it.
+fn say_container(container: &[u8], told: Told, last: &mut [u8]) {
+    say::text(b",");
+    say::fnv(container);
+    say::text(b",v=");
+    say::decimal(told.violations as u64);
+    say::text(b",fe=");
+    say::decimal(told.returned as u64);
+    keep(container, last);
+}
+
 // The one completed is the first that ended.
 fn say_completed<'a>(x: Ended, unit: &'a [u8], done: &'a [u8], last: &mut [u8]) {
     let told = x.first;
     if x.completed {
-        let container = view::container(x, 2349, done, unit, 0);
         say::text(b" c=D@0");
-        say_container(container, told);
-        keep(container, last);
+        say_container(view::container(x, 2349, done, unit, 0), told, last);
     }
 }
 
@@ -63,11 +62,10 @@ fn say_completed<'a>(x: Ended, unit: &'a [u8], done: &'a [u8], last: &mut [u8]) 
 fn say_inside<'a>(x: Ended, unit: &'a [u8], done: &'a [u8], last: &mut [u8]) {
     let told = x.second;
     if x.inside {
-        let container = view::container(x, 2349, done, unit, x.completed as usize);
+        let k = x.completed as usize;
         say::text(b" c=U@");
         say::decimal(x.place as u64);
-        say_container(container, told);
-        keep(container, last);
+        say_container(view::container(x, 2349, done, unit, k), told, last);
     }
 }
 
