@@ -1,5 +1,5 @@
 -- What a call hands back, by its answer and the view, is what the cut says ended in the unit; nothing without a normal state, nothing where it refuses. Assumes nothing.
-use mathlib.Core.Path.{_≡_, refl, sym, ap, _∙_}
+use mathlib.Core.Path.{_≡_, refl, sym, ap, ap₂, _∙_}
 use mathlib.Core.Bool.{Bool, true, false, cond}
 use mathlib.Core.List.{List, [], _++_}
 use Prim.Native.Nat.{ℕ, _+_, _≤_}
@@ -76,7 +76,7 @@ module _ (s : Shape) (f : Fit s) (state : State) (c : Call) (d : called s state 
         let b = beginIn s (a .taken) (offsetOf (a .pointer .state)) (state .held) in
         let long = done-length s (b .kept) (b .from) (c .unit) (c .held) (c .done) (can .line) (can .sizes) in
         let within : k .inside ≡ true → k .next + s .size ≤ length (c .unit) = λ h. rw (can .sizes .unit-is) (inside-fits s (b .kept) (b .from) (can .line) h) in
-        rw (called-is, n, first-part s k (c .unit) (c .held) (c .done) (k .ends) refl long, second-part s k (c .unit) (k .inside) within) refl
+        rw (called-is, n) (ap₂ (λ (a b : List (List ℕ)). a ++ b) (first-part s k (c .unit) (c .held) (c .done) (k .ends) refl long) (second-part s k (c .unit) (k .inside) within))
 
   -- nothing in alarm or lost
   pub handed-silent : isNormal (a .pointer .state) ≡ false → handed s c (called s state c) ≡ []
