@@ -1,6 +1,7 @@
 //! The fault load: `load UNITS [SEED]` feeds about UNITS units of random scripts, damaged and not, to the proved card and to the second program, call by
-//! call, and counts disagreements. Of every call the answer, the state and each lent byte are compared, refused calls too. After some units one more call is
-//! made with a state that no call need have left: its numbers in and out of their ranges, the total near its stop.
+//! call, and counts disagreements. Of every call the answer, the state and each lent byte are compared, refused calls too; and each container that the sink
+//! hands back, which the proved card takes through its view. After some units one more call is made with a state that no call need have left: its numbers in
+//! and out of their ranges, the total near its stop.
 //!
 //! Built and run by load/run. The seed is printed; the same seed and number give the same run. It fails where anything differs, and where a long run has not met each case of the
 //! sink's rules that the second program names. Links libprobe_sources.a and libprobe_sink.a.
@@ -19,7 +20,7 @@ mod second;
 use bench::{Bench, Counts};
 use proved::c::{Defect, Flags, Gathered, Label, Monitor, Parity, Plain, Rows, Run, Shown, Trace};
 use random::Random;
-use second::{Pointer, Sink, Watch};
+use second::{Ended, Pointer, Sink, Watch};
 use std::fmt::Write as _;
 
 /// How long a script is. A shorter one would not settle; a longer one starts fresh less often.
@@ -200,6 +201,7 @@ struct Load {
     line: usize,
     units: usize,
     calls: u64,
+    containers: u64,
     states: u64,
     refused_8: u64,
     stopped: u64,
@@ -280,6 +282,25 @@ impl Load {
         self.same("the sink's state", plain(&b.sink), meaning(card.sink));
         self.same_bytes("held", &b.held, &card.held);
         self.same_bytes("done", &b.done, &card.done);
+        self.handed("handed back", &b.ended, (&b.line, &b.done), &shown, (&unit, &card.done));
+    }
+
+    /// What a call handed back, of the second program by its own places and of the proved card through the view: as many containers, in one order, byte for byte. A buffer that is a
+    /// byte too short is left as it was. Of each program the unit and the done buffer are given.
+    fn handed(&mut self, what: &str, ended: &[Ended], second: (&[u8], &[u8]), shown: &Shown, proved: (&[u8], &[u8])) {
+        for k in 0..=2 {
+            let want = ended.get(k).map_or(&[][..], |x| x.place.container(second.0, second.1));
+            let mut room = vec![0xEE; second::CONTAINER_LENGTH].into_boxed_slice();
+            let number = proved::handed(shown.ended, proved.0, proved.1, k, &mut room);
+            self.same_bytes(what, want, &room[..number]);
+            self.same("what lies behind it", true, room[number..].iter().all(|x| *x == 0xEE));
+            self.containers += u64::from(number > 0);
+            if number > 0 {
+                let mut short = vec![0xEE; number - 1].into_boxed_slice();
+                self.same("the answer to a short buffer", 0, proved::handed(shown.ended, proved.0, proved.1, k, &mut short));
+                self.same("a short buffer", true, short.iter().all(|x| *x == 0xEE));
+            }
+        }
     }
 
     /// One call with a state made from where the path stands, for the unit on the line.
@@ -309,6 +330,7 @@ impl Load {
                 let both = [(x.completed, x.first), (x.inside, x.second)];
                 let told: Vec<(u8, u8)> = both.iter().filter(|(is, _)| *is).map(|(_, t)| (t.violations, t.returned)).collect();
                 self.same("what ended after any state", ended, told);
+                self.handed("handed back after any state", &answer.ended, (&b.line, &done_2), &shown, (&unit, &done));
                 self.stopped += u64::from(s.unsettled == u16::MAX && !answer.settled);
             }
         }
@@ -419,7 +441,7 @@ fn main() {
     };
     println!("load: {units} units, seed {seed}");
     let mut counts = Counts::new();
-    let mut load = Load { r: Random(seed), script: 0, line: 0, units: 0, calls: 0, states: 0, refused_8: 0, stopped: 0, differed: 0 };
+    let mut load = Load { r: Random(seed), script: 0, line: 0, units: 0, calls: 0, containers: 0, states: 0, refused_8: 0, stopped: 0, differed: 0 };
     let mut script = seed;
     let mut scripts = 0;
     while load.units < units {
@@ -429,9 +451,10 @@ fn main() {
     }
     let unmet: Vec<&str> = counts.unmet();
     println!(
-        "load: {} units of {scripts} scripts, {} calls compared, and {} with any state ({} refused with 8, {} at the total's stop); {} of {} cases of the rules met; {} disagreements",
+        "load: {} units of {scripts} scripts, {} calls compared, {} containers handed back, and {} calls with any state ({} refused with 8, {} at the total's stop); {} of {} cases of the rules met; {} disagreements",
         load.units,
         load.calls,
+        load.containers,
         load.states,
         load.refused_8,
         load.stopped,

@@ -325,6 +325,8 @@ pub struct Bench {
     pub done: Vec<u8>,
     /// The container handed back last, and where it stood.
     last: Option<(Vec<u8>, Place)>,
+    /// What ended in the unit fed last; nothing where it was refused.
+    pub ended: Vec<Ended>,
     pub given: Given,
     pub sent_trace: [u8; 15],
     pub expected: Expected,
@@ -344,6 +346,7 @@ impl Bench {
             held: vec![0x00; second::CONTAINER_LENGTH],
             done: vec![0x00; second::CONTAINER_LENGTH],
             last: None,
+            ended: Vec::new(),
             given: Given {
                 label: 0x01,
                 f2: 0x11,
@@ -508,6 +511,7 @@ impl Bench {
     }
 
     fn feed(&mut self, note: second::Note) -> String {
+        self.ended.clear();
         let fed = second::sink(&self.sink, &self.expected, &self.line, &mut self.held, &mut self.done, note);
         let (after, answer) = match fed {
             Ok(both) => both,
@@ -533,10 +537,7 @@ impl Bench {
         let ended = answer.ended.len();
         let _ = write!(text, "ok st={state} off={offset} held={} ended={ended}", self.sink.held);
         for (count, Ended { place, violations, returned }) in answer.ended.iter().enumerate() {
-            let container = match place {
-                Place::Done => &self.done[..],
-                Place::Unit(from) => &self.line[*from..*from + second::CONTAINER_LENGTH],
-            };
+            let container = place.container(&self.line, &self.done);
             let at = match place {
                 Place::Done => "D@0".to_string(),
                 Place::Unit(from) => format!("U@{from}"),
@@ -546,6 +547,7 @@ impl Bench {
                 self.last = Some((container.to_vec(), *place));
             }
         }
+        self.ended = answer.ended;
         let _ = write!(
             text,
             " ssf={} tsf={} ais={} rdi={} d=",

@@ -900,6 +900,16 @@ pub enum Place {
     Unit(usize),
 }
 
+impl Place {
+    /// The bytes of the container that stands there.
+    pub fn container<'a>(self, unit: &'a [u8], done: &'a [u8]) -> &'a [u8] {
+        match self {
+            Place::Done => done,
+            Place::Unit(from) => &unit[from..from + CONTAINER_LENGTH],
+        }
+    }
+}
+
 /// One container that ended.
 #[derive(Clone, Copy, Debug, PartialEq, Eq)]
 pub struct Ended {
@@ -1485,11 +1495,7 @@ pub fn sink(
         Pointer::Alarm | Pointer::Lost => after.clear(note),
         Pointer::Normal(offset) => {
             for place in cut(&mut after, offset, taken, unit, held, done, note) {
-                let container = match place {
-                    Place::Done => &*done,
-                    Place::Unit(from) => &unit[from..from + CONTAINER_LENGTH],
-                };
-                ended.push(after.examine(container, place, expected, note));
+                ended.push(after.examine(place.container(unit, done), place, expected, note));
             }
         }
     }

@@ -30,9 +30,8 @@ FOR_TESTS = "probe"  # crates whose names begin so
 PROMISES = "promises/proofs/"
 # functions whose contracts the check makes no `Post` of: what the theorem says instead, of the definition that the contract cites
 EXCEPTIONS = {
-    "view::of": "(done unit : List ℕ) (completed inside : Bool) (place size : ℕ) (first second first′ second′ : List ℕ) "
-    "→ Views done unit completed inside place size first second → Views done unit completed inside place size first′ second′ "
-    "→ (first ≡ first′) × (second ≡ second′)",
+    "view::of": "(e : Ended) (size : ℕ) (done unit first second first′ second′ : List ℕ) "
+    "→ Views e size done unit first second → Views e size done unit first′ second′ → (first ≡ first′) × (second ≡ second′)",
 }
 # what all the other theorems say, of a function's contract `Post` and of a reading `f` of its outcome
 DETERMINES = (

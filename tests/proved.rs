@@ -67,6 +67,17 @@ pub mod c {
             done: *mut u8,
             done_length: usize,
         ) -> Shown;
+        /// how many bytes were written to `out`
+        pub fn probe_handed(
+            ended: Ended,
+            unit: *const u8,
+            unit_length: usize,
+            done: *const u8,
+            done_length: usize,
+            k: usize,
+            out: *mut u8,
+            out_length: usize,
+        ) -> usize;
     }
 
     macro_rules! plain {
@@ -244,6 +255,11 @@ pub fn fresh_sink() -> c::Plain {
 /// The sink's whole answer. The buffers are lent as they are: where valgrind is to see their ends, they are boxes of exactly their length.
 pub fn sink(s: c::Plain, label: u8, trace: &[u8; 15], flags: c::Flags, unit: &[u8], held: &mut [u8], done: &mut [u8]) -> c::Shown {
     unsafe { c::probe_sink(s, label, trace, flags, unit.as_ptr(), unit.len(), held.as_mut_ptr(), held.len(), done.as_mut_ptr(), done.len()) }
+}
+
+/// The container that ended k-th in a unit, counted from 0, written to the start of `out`: how many bytes. The buffers are lent as they are.
+pub fn handed(ended: c::Ended, unit: &[u8], done: &[u8], k: usize, out: &mut [u8]) -> usize {
+    unsafe { c::probe_handed(ended, unit.as_ptr(), unit.len(), done.as_ptr(), done.len(), k, out.as_mut_ptr(), out.len()) }
 }
 
 /// The same state, with 0 in the bytes between its fields. The compiled sink compares some fields together with those bytes, in a way that they cannot change;

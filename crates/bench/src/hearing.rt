@@ -1,6 +1,5 @@
 // The receiving half of the bench: the sink's settings, the sink fed with the line, what it answers in print, and the payload call.
 use crate::say;
-use crate::sending::least;
 use receiving::Ended;
 use receiving::Told;
 use refusals::Answer;
@@ -32,58 +31,49 @@ fn say_state(s: reading::State) {
     }
 }
 
-// One container that ended: its bytes in the view, and what is told of it.
-fn say_container(container: &[u8], told: Told) {
-    say::text(b",");
-    say::fnv(container);
-    say::text(b",v=");
-    say::decimal(told.violations as u64);
-    say::text(b",fe=");
-    say::decimal(told.returned as u64);
-}
-
-// It is kept, since the buffer that it lies in will be written again.
+// A container is kept, since the buffer that it lies in will be written again.
 fn keep(container: &[u8], last: &mut [u8]) {
     if container.len() == last.len() {
         copier::copy(container, last);
     }
 }
 
-fn say_completed(told: Told, done: &[u8], last: &mut [u8]) {
-    say::text(b" c=D@0");
-    say_container(done, told);
-    keep(done, last);
+// One container that ended: its bytes, as the view has them, and what is told of it.
+fn say_container(container: &[u8], told: Told, last: &mut [u8]) {
+    say::text(b",");
+    say::fnv(container);
+    say::text(b",v=");
+    say::decimal(told.violations as u64);
+    say::text(b",fe=");
+    say::decimal(told.returned as u64);
+    keep(container, last);
 }
 
-fn say_inside(told: Told, from: usize, unit: &[u8], last: &mut [u8]) {
-    let place = least(from, unit.len());
-    let n = least(2349, unit.len() - place);
-    let e = place + n;
-    say::text(b" c=U@");
-    say::decimal(from as u64);
-    say_container(&unit[place..e], told);
-    keep(&unit[place..e], last);
-}
-
-fn say_first(x: Ended, done: &[u8], last: &mut [u8]) {
+// The one completed is the first that ended.
+fn say_completed<'a>(x: Ended, unit: &'a [u8], done: &'a [u8], last: &mut [u8]) {
     let told = x.first;
     if x.completed {
-        say_completed(told, done, last);
+        say::text(b" c=D@0");
+        say_container(view::container(x, 2349, done, unit, 0), told, last);
     }
 }
 
-fn say_second(x: Ended, unit: &[u8], last: &mut [u8]) {
+// The one inside is behind it, where there is one.
+fn say_inside<'a>(x: Ended, unit: &'a [u8], done: &'a [u8], last: &mut [u8]) {
     let told = x.second;
     if x.inside {
-        say_inside(told, x.place, unit, last);
+        let k = x.completed as usize;
+        say::text(b" c=U@");
+        say::decimal(x.place as u64);
+        say_container(view::container(x, 2349, done, unit, k), told, last);
     }
 }
 
-fn say_ended(x: Ended, unit: &[u8], done: &[u8], last: &mut [u8]) {
+fn say_ended<'a>(x: Ended, unit: &'a [u8], done: &'a [u8], last: &mut [u8]) {
     say::text(b" ended=");
     say::decimal(x.number as u64);
-    say_first(x, done, last);
-    say_second(x, unit, last);
+    say_completed(x, unit, done, last);
+    say_inside(x, unit, done, last);
 }
 
 fn say_actions(a: Actions) {
@@ -133,7 +123,7 @@ fn say_end(settled: bool, total: u16, held: &[u8], done: &[u8]) {
     say::text(b"\n");
 }
 
-fn say_received(r: Received, unit: &[u8], held: &[u8], done: &[u8], last: &mut [u8]) {
+fn say_received<'a>(r: Received, unit: &'a [u8], held: &[u8], done: &'a [u8], last: &mut [u8]) {
     let s = r.state;
     let p = s.pointer;
     let state = p.state;

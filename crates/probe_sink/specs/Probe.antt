@@ -1,9 +1,11 @@
--- A sink's state and answer with no enum in them, so that tests and benchmarks in another language can give any state and read all that a call leaves.
+-- A sink's state and answer with no enum in them, so that tests and benchmarks in another language can give any state and read all that a call leaves; and a container that it handed back.
 use mathlib.Core.Path.{_≡_}
 use Prim.Native.Nat.{ℕ}
 use mathlib.Core.Bool.{cond}
 use mathlib.Core.List.{List}
-use lib.Dec.{eqb}
+use lib.Dec.{eqb, ltb}
+use lib.ListN.{length}
+use Rattle.copier.specs.Put.{put}
 use Rattle.refusals.specs.Refusals.{answerNumber}
 use Rattle.shape.specs.Shape.{au4}
 use Rattle.reading.specs.declared.State as reading
@@ -11,6 +13,8 @@ use Rattle.reading.specs.declared.State.the-variants.{Normal, Alarm, Lost}
 use Rattle.pointer.specs.Machine.{isNormal, isAlarm, offsetOf}
 use Rattle.monitor.specs.declared.Expected.{Expected}
 use Rattle.report.specs.declared.Flags.{Flags}
+use Rattle.receiving.specs.declared.Ended.{Ended}
+use Rattle.view.specs.View.{containerOf}
 use Rattle.sink.specs.declared.State.{State}
 use Rattle.sink.specs.declared.Received.{Received}
 use Rattle.sink.specs.Sink.{Outcome, sink}
@@ -71,3 +75,14 @@ probedOf o = record { shown = shownOf (o .received); held = o .held; done = o .d
 
 abbrev pub Shows : Plain → Expected → Flags → List ℕ → List ℕ → List ℕ → Shown → List ℕ → List ℕ → Type 0
 Shows p e flags unit held done r held′ done′ = _≡_ {A = Probed} (record { shown = r; held = held′; done = done′ }) (probedOf (sink au4 (stateOf p) e flags unit held done))
+
+-- a container written to the start of a lent buffer: how many bytes, and the buffer; 0 and the buffer as it was, where it is too short
+pub record Written : Type 0 where
+  pub number : ℕ
+  pub bytes : List ℕ
+
+unfoldable pub writtenTo : List ℕ → List ℕ → Written
+writtenTo container out = cond (ltb (length out) (length container)) (record { number = 0; bytes = out }) (record { number = length container; bytes = put 0 container out })
+
+abbrev pub Hands : Ended → List ℕ → List ℕ → ℕ → List ℕ → ℕ → List ℕ → Type 0
+Hands e unit done k out r out′ = _≡_ {A = Written} (record { number = r; bytes = out′ }) (writtenTo (containerOf e (au4 .size) done unit k) out)

@@ -1,8 +1,8 @@
-// For tests and benchmarks only: the sink, as a function that Rust and C can link. No enum can be handed across, so the pointer's state and the answer become numbers
+// For tests and benchmarks only: the sink and the view of what it hands back, as functions that Rust and C can link. No enum can be handed across, so the pointer's state and the answer become numbers
 // by the definitions of specs/Probe.antt; all else is handed across as it is, and any state can be given. Nothing of the card rests on this crate.
 ghost use mathlib.Core.Path.{_≡_};
 ghost use Rattle.sink.specs.Sink as sink;
-ghost use Rattle.probe_sink.specs.Probe.{pointerState, kindOf, stateOf, plainOf, shownOf, Shows};
+ghost use Rattle.probe_sink.specs.Probe.{pointerState, kindOf, stateOf, plainOf, shownOf, Shows, Hands};
 use monitor::Expected;
 use monitor::Monitor;
 use pointer::Pointer;
@@ -144,4 +144,25 @@ pub extern "C" fn probe_sink(
     ensures { λ r. ⌜ Shows s (record { label = label; trace = now (characters .entry) }) flags (now (unit .entry)) (now (held .entry)) (now (done .entry)) r (now (held .exit)) (now (done .exit)) ⌝ }
 {
     show(sink::sink(state_of(s), label, characters, flags, unit, held, done))
+}
+
+// The container that ended k-th in a unit, counted from 0, taken through the view: its bytes are written to the start of `out`, and their number is answered. Where so many
+// did not end, or `out` is shorter than the container, nothing is written, and the answer is 0.
+#[no_mangle]
+pub extern "C" fn probe_handed<'a>(
+    ended: Ended,
+    unit: &'a [u8],
+    done: &'a [u8],
+    k: usize,
+    out: &mut [u8],
+) -> usize
+    ensures { λ r. ⌜ Hands ended (now (unit .entry)) (now (done .entry)) k (now (out .entry)) r (now (out .exit)) ⌝ }
+{
+    let shape = shape::au4();
+    let container = view::container(ended, shape.size, done, unit, k);
+    if out.len() < container.len() {
+        return 0;
+    }
+    copier::copy_at(container, out, 0);
+    container.len()
 }

@@ -11,8 +11,6 @@ use Rattle.reading.specs.declared.Taken.{Taken}
 use Rattle.pointer.specs.declared.Pointer.{Pointer}
 use Rattle.pointer.specs.declared.After.{After}
 use Rattle.cut.specs.declared.Cut.{Cut}
-use Rattle.view.specs.View.{Views}
-use Rattle.view.proofs.Parts.{one-view}
 use Rattle.overhead.specs.declared.Label.{Label}
 use Rattle.overhead.specs.declared.Defect.{Defect}
 use Rattle.message.specs.declared.Trace.{Trace}
@@ -24,10 +22,13 @@ use Rattle.report.specs.declared.Defects.{Defects}
 use Rattle.report.specs.declared.Actions.{Actions}
 use Rattle.report.specs.declared.Causes.{Causes}
 use Rattle.receiving.specs.Receiving.{Leaving}
+use Rattle.receiving.specs.declared.Ended.{Ended}
 use Rattle.receiving.specs.declared.Left.{Left}
+use Rattle.view.specs.View.{Views}
+use Rattle.view.proofs.Parts.{one-view}
 use Rattle.sink.specs.Sink.{Outcome}
 use Rattle.sink.specs.declared.State.{State}
-use Rattle.probe_sink.specs.Probe.{Probed}
+use Rattle.probe_sink.specs.Probe.{Probed, Written}
 use Rattle.probe_sink.specs.declared.Plain.{Plain}
 use Rattle.promises.proofs.Determined.{Determines}
 use Rattle.counts.proofs.one_more.Kinds as counts-one-more
@@ -96,6 +97,8 @@ use Rattle.receiving.proofs.silence.Kinds as receiving-silence
 use Rattle.receiving.proofs.silence.Reads as receiving-silence-promise
 use Rattle.receiving.proofs.receive.Kinds as receiving-receive
 use Rattle.receiving.proofs.receive.Reads as receiving-receive-promise
+use Rattle.view.proofs.container.Kinds as view-container
+use Rattle.view.proofs.container.Reads as view-container-promise
 use Rattle.sink.proofs.fresh.Kinds as sink-fresh
 use Rattle.sink.proofs.fresh.Reads as sink-fresh-promise
 use Rattle.sink.proofs.sink.Kinds as sink
@@ -104,6 +107,8 @@ use Rattle.probe_sink.proofs.probe_fresh_sink.Kinds as probe-fresh-sink
 use Rattle.probe_sink.proofs.probe_fresh_sink.Reads as probe-fresh-sink-promise
 use Rattle.probe_sink.proofs.probe_sink.Kinds as probe-sink
 use Rattle.probe_sink.proofs.probe_sink.Reads as probe-sink-promise
+use Rattle.probe_sink.proofs.probe_handed.Kinds as probe-handed
+use Rattle.probe_sink.proofs.probe_handed.Reads as probe-handed-promise
 
 -- ---- counts
 
@@ -160,13 +165,6 @@ unit-cut-same x y z = rw (x, y, z)
 
 pub cut-unit-determined : Determines {O = UnitCut} 3 cut-unit.ps cut-unit.r cut-unit-promise.Post (λ κs r e. record { cut = r; held = now (e .1 .1 .1 .1 .0); done = now (e .1 .1 .1 .1 .1 .0) })
 cut-unit-determined κs a x y s t p q = unit-cut-same (p .cut-is ∙ sym (q .cut-is)) (p .held-is ∙ sym (q .held-is)) (p .done-is ∙ sym (q .done-is))
-
--- ---- view
-
--- a view holds two lent slices: `of` is proved by a walk, and has no `Post` to be read. Its `ensures` is `Views` of the bytes of both, and of that this is said
-pub view-of-determined : (done unit : List ℕ) (completed inside : Bool) (place size : ℕ) (first second first′ second′ : List ℕ)
-    → Views done unit completed inside place size first second → Views done unit completed inside place size first′ second′ → (first ≡ first′) × (second ≡ second′)
-view-of-determined = one-view
 
 -- ---- overhead
 
@@ -238,6 +236,16 @@ receiving-silence-determined κs a x y s t p q = p ∙ sym q
 pub receiving-receive-determined : Determines {O = Leaving} 3 receiving-receive.ps receiving-receive.r receiving-receive-promise.Post (λ κs r e. record { left = r; held = now (e .1 .1 .1 .1 .1 .1 .1 .0); done = now (e .1 .1 .1 .1 .1 .1 .1 .1 .0) })
 receiving-receive-determined κs a x y s t p q = p ∙ sym q
 
+-- ---- view
+
+-- a view holds two lent slices: `of` is proved by a walk, and has no `Post` to be read. Its `ensures` is `Views` of the bytes of both, and of that this is said
+pub view-of-determined : (e : Ended) (size : ℕ) (done unit first second first′ second′ : List ℕ)
+    → Views e size done unit first second → Views e size done unit first′ second′ → (first ≡ first′) × (second ≡ second′)
+view-of-determined = one-view
+
+pub view-container-determined : Determines {O = List ℕ} 1 view-container.ps view-container.r view-container-promise.Post (λ κs r e. now r)
+view-container-determined κs a x y s t p q = p ∙ sym q
+
 -- ---- sink
 
 pub sink-fresh-determined : Determines {O = State} 0 sink-fresh.ps sink-fresh.r sink-fresh-promise.Post (λ κs r e. r)
@@ -253,3 +261,6 @@ probe-fresh-sink-determined κs a x y s t p q = p ∙ sym q
 
 pub probe-sink-determined : Determines {O = Probed} 4 probe-sink.ps probe-sink.r probe-sink-promise.Post (λ κs r e. record { shown = r; held = now (e .1 .1 .1 .1 .1 .0); done = now (e .1 .1 .1 .1 .1 .1 .0) })
 probe-sink-determined κs a x y s t p q = p ∙ sym q
+
+pub probe-handed-determined : Determines {O = Written} 2 probe-handed.ps probe-handed.r probe-handed-promise.Post (λ κs r e. record { number = r; bytes = now (e .1 .1 .1 .1 .0) })
+probe-handed-determined κs a x y s t p q = p ∙ sym q

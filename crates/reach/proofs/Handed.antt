@@ -1,5 +1,5 @@
 -- What a call hands back, by its answer and the view, is what the cut says ended in the unit; nothing without a normal state, nothing where it refuses. Assumes nothing.
-use mathlib.Core.Path.{_≡_, refl, sym, ap, _∙_}
+use mathlib.Core.Path.{_≡_, refl, sym, ap, ap₂, _∙_}
 use mathlib.Core.Bool.{Bool, true, false, cond}
 use mathlib.Core.List.{List, [], _++_}
 use Prim.Native.Nat.{ℕ, _+_, _≤_}
@@ -16,7 +16,7 @@ use Rattle.cut.specs.Cut.{Line, Sizes, cutOf, completedOf, insidePart, oneIf, e
 use Rattle.cut.specs.declared.Cut.{Cut}
 use Rattle.cut.proofs.Within.{inside-fits}
 use Rattle.cut.proofs.Outcome.{done-length}
-use Rattle.view.specs.View.{partOf}
+use Rattle.view.specs.View.{partOf, inOrder}
 use Rattle.view.proofs.Parts.{part-whole, part-fits}
 use Rattle.receiving.specs.Receiving.{beginIn, cutIn, endedIn, bothSeen, received, silence, Receivable}
 use Rattle.sink.specs.Sink.{Outcome, pointed, leaving, told, refusing, sink, Fed, Pointed}
@@ -71,21 +71,21 @@ module _ (s : Shape) (f : Fit s) (state : State) (c : Call) (d : called s state 
 
     -- WHAT IS HANDED BACK IS WHAT ENDED: in this order, each in its place
     pub handed-normal : handed s c (called s state c) ≡ endedOf s k (c .unit) (c .held)
-    unfolding handed told leaving received bothSeen endedIn endedOf
+    unfolding handed inOrder told leaving received bothSeen endedIn endedOf
     handed-normal =
         let b = beginIn s (a .taken) (offsetOf (a .pointer .state)) (state .held) in
         let long = done-length s (b .kept) (b .from) (c .unit) (c .held) (c .done) (can .line) (can .sizes) in
         let within : k .inside ≡ true → k .next + s .size ≤ length (c .unit) = λ h. rw (can .sizes .unit-is) (inside-fits s (b .kept) (b .from) (can .line) h) in
-        rw (called-is, n, first-part s k (c .unit) (c .held) (c .done) (k .ends) refl long, second-part s k (c .unit) (k .inside) within) refl
+        rw (called-is, n) (ap₂ (λ (a b : List (List ℕ)). a ++ b) (first-part s k (c .unit) (c .held) (c .done) (k .ends) refl long) (second-part s k (c .unit) (k .inside) within))
 
   -- nothing in alarm or lost
   pub handed-silent : isNormal (a .pointer .state) ≡ false → handed s c (called s state c) ≡ []
-  unfolding handed told leaving silence
+  unfolding handed inOrder told leaving silence
   handed-silent n = rw (called-is, n) refl
 
 -- nothing where it refuses
 pub handed-refused : (s : Shape) (state : State) (c : Call) (x : Refusal) → called s state c .received .answer ≡ Refused x → handed s c (called s state c) ≡ []
-unfolding handed sink told refusing silence
+unfolding handed inOrder sink told refusing silence
 handed-refused s state c x =
     outcome-by (λ (o : Outcome). o .received .answer ≡ Refused x → handed s c o ≡ []) (faults s state c)
     (λ h. absurd (done-not-refused x h))

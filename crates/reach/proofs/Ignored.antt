@@ -24,7 +24,7 @@ use Rattle.cut.specs.declared.Cut.{Cut}
 use Rattle.monitor.specs.declared.Monitor.{Monitor}
 use Rattle.monitor.specs.declared.Expected.{Expected}
 use Rattle.report.specs.declared.Flags.{Flags}
-use Rattle.view.specs.View.{partOf}
+use Rattle.view.specs.View.{partOf, inOrder}
 use Rattle.receiving.specs.Receiving.{Leaving, fromIn, beginIn, endedIn, bothSeen, received, silence}
 use Rattle.sink.specs.Sink.{Outcome, pointed, sinkFaults, leaving, told, refusing, sink}
 use Rattle.sink.specs.declared.State.{State}
@@ -143,7 +143,7 @@ module _ (s : Shape) (state : State) (e : Expected) (flags : Flags) (unit unit�
 
   -- and the same containers are handed back, that inside the unit among them
   pub handed-ignored : Alike s (begins s state unit) unit unit′ → handed s (call unit) (called s state (call unit)) ≡ handed s (call unit′) (called s state (call unit′))
-  unfolding handed
+  unfolding handed inOrder
   handed-ignored l =
       let r = sink s state e flags unit held done .received .ended in
       rw (part-same unit unit′ (begins s state unit) (r .place) (s .size) (l .long) (l .run) (r .inside) (inside-later s state e flags unit held done), ignored l) refl

@@ -1,9 +1,8 @@
 -- The states that calls of the sink can reach: from the fresh one, by any row of calls, refused ones, other settings, other units and buffers among them.
-use mathlib.Core.List.{List, [], _∷_, _++_}
+use mathlib.Core.List.{List, [], _∷_}
 use Prim.Native.Nat.{ℕ}
 use Rattle.shape.specs.declared.Shape.{Shape}
-use Rattle.view.specs.View.{partOf}
-use Rattle.cut.specs.Cut.{oneIf}
+use Rattle.view.specs.View.{handedBack}
 use Rattle.monitor.specs.declared.Expected.{Expected}
 use Rattle.report.specs.declared.Flags.{Flags}
 use Rattle.sink.specs.Sink.{freshState, Outcome, sink}
@@ -33,7 +32,4 @@ reached s calls = stateAfter s freshState calls
 
 -- the containers that the answer tells of, each where the view finds it: in the done buffer, in the unit itself
 unfoldable pub handed : Shape → Call → Outcome → List (List ℕ)
-handed s c o =
-    let e = o .received .ended in
-    oneIf (e .completed) (partOf (o .done) (e .completed) 0 (s .size))
-    ++ oneIf (e .inside) (partOf (c .unit) (e .inside) (e .place) (s .size))
+handed s c o = handedBack (o .received .ended) (s .size) (o .done) (c .unit)

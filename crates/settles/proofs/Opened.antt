@@ -33,5 +33,5 @@ use Rattle.settles.specs.Demand.{Run, Path, after, pathAt}
 
 -- the path before unit n
 unfoldable pub opened : Shape → Run → ℕ → Path
-unfolding of-counts.runOn of-word.kindOf of-word.ssOf of-word.valueOf of-word.ofKind of-word.good of-word.inverted of-check.coefficients of-check.polynomial of-check.minus of-check.remainder of-check.number of-check.check7 of-check.startByte of-check.message of-check.topBitsClear of-check.goodMessage of-check.traceCheck of-check.alike of-settings.labelRefused of-settings.outside of-settings.traceRefused of-refusals.numberOf of-refusals.answerNumber of-refusals.due of-refusals.answerOf of-refusals.outcome of-shape.heldCount of-shape.upOf of-shape.downOf of-shape.offsetAfter of-shape.runFrom of-shape.endedBy of-container.rowsOf of-container.headsOf of-parity.parityOf of-reading.runAfter of-reading.elsewhere of-reading.adjustment of-reading.inNormal of-reading.outside of-reading.byState of-reading.takenAs of-reading.restarts of-reading.adjustmentOf of-machine.fresh of-machine.rowsAfter of-machine.alarmWord of-machine.renewed of-machine.newData of-machine.invalid of-machine.stateAfter of-machine.isNormal of-machine.isAlarm of-machine.isLost of-machine.offsetOf of-machine.waitAfter of-machine.takenIn of-machine.pointerAfter of-machine.stepOf of-machine.placed of-machine.inRange of-cut.nextOf of-cut.insideOf of-cut.beginOf of-cut.cutOf of-cut.completedOf of-cut.insidePart of-cut.endedCount of-cut.doneOf of-cut.heldOf of-violations.violationsOf of-violations.keptOf of-labels.fits of-labels.labelOf of-defects.defectOf of-defects.remoteOf of-defects.returnedOf of-trace.gatheredOf of-trace.endsGood of-trace.spoils of-trace.withGood of-trace.withoutGood of-trace.traceOf of-trace.blankTrace of-seeing.seenIn of-monitoring.blankOf of-monitoring.stepOf of-monitoring.seenOf of-monitoring.inRange of-report.defectsOf of-report.actionsOf of-report.causesAt of-report.causesOf of-report.noneStands of-report.labelExpected of-report.traceExpected of-report.settledOf of-report.totalOf of-receiving.forgot of-receiving.fromIn of-receiving.beginIn of-receiving.watched of-receiving.endedIn of-receiving.silence of-receiving.bothSeen of-receiving.received of-sink.freshState of-sink.outOfRange of-sink.sinkFaults of-sink.pointed of-sink.leaving of-sink.told of-sink.refusing of-sink.sink of-making.j1Of of-making.g1Of of-making.overheadOf of-containers.containerSent of-unit.groupOf of-unit.headOf of-unit.runOf of-units.adjusts of-units.outOfRange of-units.makeFaults of-units.wordSent of-units.unitSent of-units.waitAfter of-units.stateAfter of-units.unitSource of-stream.after of-reach.stateAfter ones onesIn after pathAt of-reach.handed of-view.partOf
+unfolding of-counts.runOn of-word.kindOf of-word.ssOf of-word.valueOf of-word.ofKind of-word.good of-word.inverted of-check.coefficients of-check.polynomial of-check.minus of-check.remainder of-check.number of-check.check7 of-check.startByte of-check.message of-check.topBitsClear of-check.goodMessage of-check.traceCheck of-check.alike of-settings.labelRefused of-settings.outside of-settings.traceRefused of-refusals.numberOf of-refusals.answerNumber of-refusals.due of-refusals.answerOf of-refusals.outcome of-shape.heldCount of-shape.upOf of-shape.downOf of-shape.offsetAfter of-shape.runFrom of-shape.endedBy of-container.rowsOf of-container.headsOf of-parity.parityOf of-reading.runAfter of-reading.elsewhere of-reading.adjustment of-reading.inNormal of-reading.outside of-reading.byState of-reading.takenAs of-reading.restarts of-reading.adjustmentOf of-machine.fresh of-machine.rowsAfter of-machine.alarmWord of-machine.renewed of-machine.newData of-machine.invalid of-machine.stateAfter of-machine.isNormal of-machine.isAlarm of-machine.isLost of-machine.offsetOf of-machine.waitAfter of-machine.takenIn of-machine.pointerAfter of-machine.stepOf of-machine.placed of-machine.inRange of-cut.nextOf of-cut.insideOf of-cut.beginOf of-cut.cutOf of-cut.completedOf of-cut.insidePart of-cut.endedCount of-cut.doneOf of-cut.heldOf of-violations.violationsOf of-violations.keptOf of-labels.fits of-labels.labelOf of-defects.defectOf of-defects.remoteOf of-defects.returnedOf of-trace.gatheredOf of-trace.endsGood of-trace.spoils of-trace.withGood of-trace.withoutGood of-trace.traceOf of-trace.blankTrace of-seeing.seenIn of-monitoring.blankOf of-monitoring.stepOf of-monitoring.seenOf of-monitoring.inRange of-report.defectsOf of-report.actionsOf of-report.causesAt of-report.causesOf of-report.noneStands of-report.labelExpected of-report.traceExpected of-report.settledOf of-report.totalOf of-receiving.forgot of-receiving.fromIn of-receiving.beginIn of-receiving.watched of-receiving.endedIn of-receiving.silence of-receiving.bothSeen of-receiving.received of-sink.freshState of-sink.outOfRange of-sink.sinkFaults of-sink.pointed of-sink.leaving of-sink.told of-sink.refusing of-sink.sink of-making.j1Of of-making.g1Of of-making.overheadOf of-containers.containerSent of-unit.groupOf of-unit.headOf of-unit.runOf of-units.adjusts of-units.outOfRange of-units.makeFaults of-units.wordSent of-units.unitSent of-units.waitAfter of-units.stateAfter of-units.unitSource of-stream.after of-reach.stateAfter ones onesIn after pathAt of-reach.handed of-view.inOrder of-view.partOf
 opened s r n = pathAt s r n

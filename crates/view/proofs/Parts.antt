@@ -1,13 +1,16 @@
--- Laws of a buffer's part: when it is empty, and what it is where it is not; and that one view alone is promised. Assumes nothing.
+-- Laws of a buffer's part: when it is empty, and what it is where it is not; which of two containers ended k-th; and that one view alone is promised. Assumes nothing.
 use mathlib.Core.Path.{_≡_, refl, sym, ap, _∙_}
-use mathlib.Core.Bool.{Bool, true, false, cond, _&&_}
-use mathlib.Core.List.{List, []}
-use Prim.Native.Nat.{ℕ, _+_, _-_, _≤_, _<_}
+use mathlib.Core.Bool.{Bool, true, false, cond, _&&_, not}
+use mathlib.Core.List.{List, [], _++_}
+use Prim.Native.Nat.{ℕ, zero, suc, _+_, _-_, _≤_, _<_}
 use native.Mathlib.Omega.{arith}
-use lib.ListN.{length, take, drop}
+use lib.ListN.{length, take, drop, getD}
+use lib.Dec.{eqb}
 use lib.Seq.{take-all}
-use borrow.Author.Tests.{le-leb, lt-leb}
-use Rattle.view.specs.View.{partOf, Views}
+use borrow.Author.Tests.{le-leb, lt-leb, ne-eqb}
+use Rattle.cut.specs.Cut.{oneIf}
+use Rattle.receiving.specs.declared.Ended.{Ended}
+use Rattle.view.specs.View.{partOf, firstOf, inOrder, containerOf, Views}
 
 -- ---- no bytes
 
@@ -46,9 +49,54 @@ part-lent buffer there place size e h =
 pub part-whole : (buffer : List ℕ) (there : Bool) (size : ℕ) → length buffer ≡ size → partOf buffer there 0 size ≡ cond there buffer []
 part-whole buffer there size e = part-fits buffer there 0 size (λ _. omega arith) ∙ ap (λ (l : List ℕ). cond there l []) (take-all size buffer (omega arith))
 
+-- ---- one of two
+
+past : (k n : ℕ) → n ≤ k → eqb (suc k) n ≡ false
+past k n h = ne-eqb (suc k) n (λ e. omega arith)
+
+-- the one that ended k-th: the second is behind the first, or by itself
+in-order : (e : Ended) (first second : List ℕ) (k : ℕ)
+    → getD (inOrder e first second) k []
+    ≡ cond (e .completed && eqb k 0) first (cond ((e .completed && e .inside) && eqb k 1) second (cond ((not (e .completed) && e .inside) && eqb k 0) second []))
+unfolding inOrder
+in-order e first second k = go (e .completed) (e .inside) k
+  where
+    go : (a b : Bool) (k : ℕ)
+        → getD (oneIf a first ++ oneIf b second) k [] ≡ cond (a && eqb k 0) first (cond ((a && b) && eqb k 1) second (cond ((not a && b) && eqb k 0) second []))
+    go true true zero = refl
+    go true true (suc zero) = refl
+    go true true (suc (suc k)) = rw (past (suc k) 0 (omega arith), past (suc k) 1 (omega arith)) refl
+    go true false zero = refl
+    go true false (suc k) = rw (past k 0 (omega arith)) refl
+    go false true zero = refl
+    go false true (suc k) = rw (past k 0 (omega arith)) refl
+    go false false k = refl
+
+-- what each test decides: the first, the second behind it, the second by itself, none
+module _ (e : Ended) (first second : List ℕ) (k : ℕ) where
+  pub nth-first : (e .completed && eqb k 0) ≡ true → first ≡ getD (inOrder e first second) k []
+  nth-first a = rw (in-order e first second k, a) refl
+
+  pub nth-behind : (e .completed && eqb k 0) ≡ false → ((e .completed && e .inside) && eqb k 1) ≡ true → second ≡ getD (inOrder e first second) k []
+  nth-behind a b = rw (in-order e first second k, a, b) refl
+
+  pub nth-alone : (e .completed && eqb k 0) ≡ false → ((e .completed && e .inside) && eqb k 1) ≡ false → ((not (e .completed) && e .inside) && eqb k 0) ≡ true
+      → second ≡ getD (inOrder e first second) k []
+  nth-alone a b c = rw (in-order e first second k, a, b, c) refl
+
+  pub nth-none : (e .completed && eqb k 0) ≡ false → ((e .completed && e .inside) && eqb k 1) ≡ false → ((not (e .completed) && e .inside) && eqb k 0) ≡ false
+      → [] ≡ getD (inOrder e first second) k []
+  nth-none a b c = rw (in-order e first second k, a, b, c) refl
+
+-- of the view's two, so: the containers that the unit hands back
+pub handed-seen : (e : Ended) (size : ℕ) (done unit first second : List ℕ) (k : ℕ) → Views e size done unit first second
+    → getD (inOrder e first second) k [] ≡ containerOf e size done unit k
+handed-seen e size done unit first second k v =
+    ap (λ (x : List ℕ). getD (inOrder e x second) k []) (v .first-is) ∙ ap (λ (x : List ℕ). getD (inOrder e (firstOf e size done) x) k []) (v .second-is)
+
 -- ---- the promise
 
 -- two views that it allows have the same bytes
-pub one-view : (done unit : List ℕ) (completed inside : Bool) (place size : ℕ) (first second first′ second′ : List ℕ)
-    → Views done unit completed inside place size first second → Views done unit completed inside place size first′ second′ → (first ≡ first′) × (second ≡ second′)
-one-view done unit completed inside place size first second first′ second′ p q = (p .first-is ∙ sym (q .first-is), p .second-is ∙ sym (q .second-is))
+pub one-view : (e : Ended) (size : ℕ) (done unit first second first′ second′ : List ℕ)
+    → Views e size done unit first second → Views e size done unit first′ second′ → (first ≡ first′) × (second ≡ second′)
+one-view e size done unit first second first′ second′ p q = (p .first-is ∙ sym (q .first-is), p .second-is ∙ sym (q .second-is))

@@ -1,7 +1,10 @@
-// The view of the containers that ended in a unit: two lent slices, and no copy. The definition stands in specs/View.antt. The sink's answer is read with it.
-// Any numbers may be asked for: a part that is not there is empty.
+// The view of the containers that ended in a unit: two lent slices, and no copy. The definitions stand in specs/View.antt. Whoever takes a container that the sink
+// handed back takes it from here: the bench, and the sink's probe. Any numbers may be asked for: a part that is not there is empty.
 ghost use mathlib.Core.Path.{_≡_};
-ghost use Rattle.view.specs.View.{partOf, Views};
+ghost use mathlib.Core.List.{[]};
+ghost use lib.ListN.{getD};
+ghost use Rattle.view.specs.View.{partOf, inOrder, containerOf, Views};
+use receiving::Ended;
 
 // The container that was completed in the done buffer, and then the one that is a part of the unit itself; empty where there is none.
 pub struct View<'a> {
@@ -26,18 +29,41 @@ fn part<'a>(buffer: &'a [u8], there: bool, place: usize, size: usize) -> &'a [u8
     &buffer[place..e]
 }
 
-// What ended in a unit: whether one was completed in `done`, whether one lies inside the unit and from which place, and how many bytes a container has.
-pub fn of<'a>(
+// What ended in a unit, by the sink's answer, where a container has `size` bytes: a part of the done buffer and a part of the unit.
+pub fn of<'a>(ended: Ended, size: usize, done: &'a [u8], unit: &'a [u8]) -> View<'a>
+    ensures { λ r. ⌜ Views ended size (now (done .entry)) (now (unit .entry)) (now (r .first)) (now (r .second)) ⌝ }
+{
+    let first = part(done, ended.completed, 0, size);
+    let second = part(unit, ended.inside, ended.place, size);
+    View { first, second }
+}
+
+// Of the two, the one that ended k-th in the unit, counted from 0.
+fn nth<'a>(ended: Ended, k: usize, first: &'a [u8], second: &'a [u8]) -> &'a [u8]
+    ensures { λ r. ⌜ now r ≡ getD (inOrder ended (now (first .entry)) (now (second .entry))) k [] ⌝ }
+{
+    if ended.completed & (k == 0) {
+        return first;
+    }
+    if ended.completed & ended.inside & (k == 1) {
+        return second;
+    }
+    if !ended.completed & ended.inside & (k == 0) {
+        return second;
+    }
+    &second[..0]
+}
+
+// The container that ended k-th in the unit, counted from 0: first the one completed, then the one inside. Empty where so many did not end.
+pub fn container<'a>(
+    ended: Ended,
+    size: usize,
     done: &'a [u8],
     unit: &'a [u8],
-    completed: bool,
-    inside: bool,
-    place: usize,
-    size: usize,
-) -> View<'a>
-    ensures { λ r. ⌜ Views (now (done .entry)) (now (unit .entry)) completed inside place size (now (r .first)) (now (r .second)) ⌝ }
+    k: usize,
+) -> &'a [u8]
+    ensures { λ r. ⌜ now r ≡ containerOf ended size (now (done .entry)) (now (unit .entry)) k ⌝ }
 {
-    let first = part(done, completed, 0, size);
-    let second = part(unit, inside, place, size);
-    View { first, second }
+    let view = of(ended, size, done, unit);
+    nth(ended, k, view.first, view.second)
 }

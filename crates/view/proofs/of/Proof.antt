@@ -1,5 +1,5 @@
--- `view::of` meets its contract: a walk of its MIR, by hand. `part` is called twice, and a `View` is made of the two slices that it returns. All that the proof knows of `part` is that it meets its contract.
--- A `&[u8]` is Copy: of what the done buffer and the unit own one copy goes to a call, and one is kept for the exit. What a number or a bool owns is made anew. Assumes nothing.
+-- `view::of` meets its contract: a walk of its MIR, by hand. `part` is called twice, with fields of what ended, and a `View` is made of the two slices that it returns. All that the proof knows of `part` is that it meets its contract.
+-- What the done buffer and the unit own goes to a call each. What a number or a bool owns is made anew. At exit nothing is asked of the parameters. Assumes nothing.
 use mathlib.Core.Path.{_≡_, refl, subst⁻¹}
 use Prim.Native.Nat.{ℕ, _<_, _^_}
 use mathlib.Core.List.{List, [], _∷_}
@@ -10,7 +10,7 @@ use mathlib.Core.Bool.{Bool, true, _&&_}
 use mir.Syntax.{Ty, named, erased, imm, tyRef, tyInt, w8, w64}
 use mir.Val.{Val, WT, hasTy, vint, vbool, vstruct, vcons, vnil}
 use mir.Facts.{yes-and}
-use base.Logic.{SProp, ent, sep, snd∗, exE, id⊢, via, fst∗, emp}
+use base.Logic.{SProp, ent, snd∗, exE, id⊢, via, fst∗, emp}
 use base.Fml.{Lft, Share, Fml, ftrue, flft}
 use prog.Memory.{Memory}
 use prog.Routine.{Routine}
@@ -19,28 +19,33 @@ use ghost.Atoms.{Atoms, sem}
 use contract.Monad.{Fun, fact}
 use contract.Running.{givenOf, tables, tablesOf}
 use types.Kit.{Given, Item, ‵, raw, _⊛_, ⋆, some, later, _$_, _∵_, !, qed, by, move, drop, use1, use2, split, pick, fsplit, fjoin, join, suffices, frame, await, done}
-use types.Part.{agg}
-use types.Run.{look, init, forget, stop, from, load, lit, and-then, no-more, assigns, land, returns, enter, alloc1, alloc0, params1, pass1, pass0, free1, free0}
+use types.Part.{agg, whole, sub, look-in}
+use types.Run.{look, init, forget, stop, fld, from, load, lit, and-then, no-more, assigns, land, returns, enter, alloc1, alloc0, params1, pass1, pass0, free1, free0}
 use sound.WpLaws.{FmC, fmOf, WpFn-mono}
 use denote.RattleType.{owns}
 use denote.Laws.{Is, shows}
-use denote.Plain.{uint-makes, uint-vals, uint-tells, bool-makes, bool-vals, bool-tells}
+use denote.Plain.{uint-makes, uint-vals, uint-tells, bool-makes}
 use denote.Builtin.{u8, usize, bool}
 use denote.Ref.{RefT, NamedLft, now}
-use denote.Signature.{plain, namedLft}
-use denote.Slice.{sliceVal, sliceTy, ShrSlice, slice-vals, shr-slice-tells, shr-slice-lawful, shr-slice-copy}
+use denote.Signature.{namedLft}
+use denote.Slice.{sliceVal, sliceTy, ShrSlice, slice-vals, shr-slice-tells, shr-slice-lawful}
 use denote.Steps.{peeks, heard, nothing, owned}
+use denote.Struct.Laws as LL
 use denote.Struct.Rest.{own-shut}
 use denote.Triple.Statement.{Contract, Triple}
 use denote.Triple.Call.{calls-at}
 use denote.Triple.Entry.{Vals, onEntry}
 use denote.Triple.Spec.{Meets, tripleOf}
 use denote.Triple.Table.{entered, cited}
-use denote.Triple.Walked.{says, Stays, stay-none, stay-none-slice, walkOf, goes-none, goes-none-slice, Walks, ends-at, walked, walk-meets}
+use denote.Triple.Walked.{says, Stays, walkOf, goes-dropped, Walks, ends-at, walked, walk-meets}
 use denote.Exit.{yes}
 use denote.Triple.Clauses.{ensured, lasts}
+use Rattle.receiving.specs.declared.Ended.{Ended}
+use Rattle.receiving.proofs.Ended as E
+use Rattle.receiving.proofs.Ended.Laws as E′
 use Rattle.view.specs.View.{partOf, Views}
 use Rattle.view.specs.declared.View.{View}
+use Rattle.view.proofs.Slots.{ending, number, lent, drops, head-is}
 use Rattle.view.proofs.View as T
 use Rattle.view.proofs.View.Laws as T′
 use Rattle.view.proofs.part as part
@@ -60,14 +65,14 @@ both-typed : (u u′ : Val) → Holds (hasTy S u) × WT u → Holds (hasTy S u�
 both-typed u u′ p p′ = (yes-and (hasTy S u) (hasTy S u′ && true) (p .0) (yes-and (hasTy S u′) true (p′ .0) tt), (p .1, (p′ .1, tt)))
 
 abbrev stayed : Stays (of.ended .signature .params) (of.ended .kept)
-stayed = (stay-none-slice (0 ∷ []) tt (plain (λ _. u8)) yes, (stay-none-slice (0 ∷ []) tt (plain (λ _. u8)) yes, (stay-none (λ _. bool) yes, (stay-none (λ _. bool) yes, (stay-none (λ _. usize) yes, (stay-none (λ _. usize) yes, tt))))))
+stayed = (drops ending, (drops number, (drops lent, (drops lent, tt))))
 
 module _ {M : Type 1} (𝓤 : URA M) (H : Heap 𝓤) (A : Atoms 𝓤) (mem : Memory → SProp 𝓤) (run : Routine → Fun 𝓤) where
   -- the contract that the proof cites
   abbrev Part : Contract 𝓤
   Part = tripleOf 𝓤 H A part.signature (part.spec 𝓤 H A mem run)
 
-module _ {M : Type 1} (𝓤 : URA M) (H : Heap 𝓤) (A : Atoms 𝓤) (W : Given 𝓤 H A) (mem : Memory → SProp 𝓤) (run : Routine → Fun 𝓤) (κ : Lft) (q : Share) (s t : RefT (List ℕ)) (b i : Bool) (n z : ℕ) (n-fits : n < 2 ^ 64) (z-fits : z < 2 ^ 64) where
+module _ {M : Type 1} (𝓤 : URA M) (H : Heap 𝓤) (A : Atoms 𝓤) (W : Given 𝓤 H A) (mem : Memory → SProp 𝓤) (run : Routine → Fun 𝓤) (κ : Lft) (q : Share) (d : Ended) (z : ℕ) (s t : RefT (List ℕ)) (place-fits : d .place < 2 ^ 64) (z-fits : z < 2 ^ 64) where
   abbrev α : NamedLft
   α = namedLft 1 0 tt (κ, tt)
 
@@ -84,13 +89,16 @@ module _ {M : Type 1} (𝓤 : URA M) (H : Heap 𝓤) (A : Atoms 𝓤) (W : Given
   abbrev num : ℕ → Val
   num x = vint w64 x
 
+  abbrev mach : Val
+  mach = E′.lowered d
+
   abbrev vals : Vals of.signature (κ, tt)
-  vals = (at s ∷ [], (at t ∷ [], (vbool b ∷ [], (vbool i ∷ [], (num n ∷ [], (num z ∷ [], tt))))))
+  vals = (mach ∷ [], (num z ∷ [], (at s ∷ [], (at t ∷ [], tt))))
 
   abbrev Post : Val → SProp 𝓤
-  Post = walkOf 𝓤 H A of.ended stayed (of.clauses 𝓤 H A mem run) .post (((κ, tt), (q, tt), tt, (s, (t, (b, (i, (n, (z, tt)))))), vals), tt)
+  Post = walkOf 𝓤 H A of.ended stayed (of.clauses 𝓤 H A mem run) .post (((κ, tt), (q, tt), tt, (d, (z, (s, (t, tt)))), vals), tt)
 
-  -- a call of `part` for a buffer x: what it is passed, what it asks, what is kept, and what it says
+  -- a call of `part` for a buffer x: what it is passed, what it asks, and what it says
   abbrev to : RefT (List ℕ) → Bool → ℕ → Part 𝓤 H A mem run .Ghost
   to x y p = (((κ, tt), (q, tt), tt, (x, (y, (p, (z, tt)))), (at x ∷ [], (vbool y ∷ [], (num p ∷ [], (num z ∷ [], tt))))), tt)
 
@@ -100,85 +108,80 @@ module _ {M : Type 1} (𝓤 : URA M) (H : Heap 𝓤) (A : Atoms 𝓤) (W : Given
       nothing ! $ owned ! usize (Is usize) (uint-makes 𝓤 H A W w64) z _ (refl, z-fits) $ fjoin ! $ owned ! usize (Is usize) (uint-makes 𝓤 H A W w64) p _ (refl, fits) $ fjoin ! $ owned ! bool (Is bool) (bool-makes 𝓤 H A W) y _ refl $ fjoin ! $
       move ! (2 ∷ 0 ∷ []) $ fjoin ! $ move ! (1 ∷ 0 ∷ []) $ join ! $ frame ! $ done !
 
-  goes : (x : RefT (List ℕ)) (y : Bool) (p : ℕ) → p < 2 ^ 64 → ent 𝓤 (⋆ 𝓤 H A (Token ∷ ‵ (Own x (at x)) ∷ [])) (sep 𝓤 (Part 𝓤 H A mem run .pre (to x y p)) (sem 𝓤 H A (Own x (at x))))
-  goes x y p fits =
-      qed W (Token ∷ ‵ (Own x (at x)) ∷ []) ∵
-      move ! (1 ∷ []) $ use1 W (‵ (Own x (at x)) ⊛ ‵ (Own x (at x))) (shr-slice-copy 𝓤 H A W (named 0) κ u8 .twice x (at x ∷ [])) $ split ! $
-      -- [what x owns, twice; the token]
-      move ! (2 ∷ 0 ∷ []) $ use2 W (raw (Part 𝓤 H A mem run .pre (to x y p))) (asked x y p fits) $ frame ! $ done !
-
   abbrev Says : RefT (List ℕ) → Bool → ℕ → RefT (List ℕ) → Type 0
   Says x y p r = now r ≡ partOf (now x) y p z
 
   said : (x : RefT (List ℕ)) (y : Bool) (p : ℕ) (r : RefT (List ℕ)) → ent 𝓤 (ensured 𝓤 H A part.ended (part.clauses 𝓤 H A mem run) (κ, tt) (x, (y, (p, (z, tt)))) tt r) (fact 𝓤 (Says x y p r))
   said x y p r = exE 𝓤 _ (λ ws. snd∗ 𝓤 (sem 𝓤 H A (lasts part.ended (κ, tt) (x, (y, (p, (z, tt)))) ws)) (fact 𝓤 (Says x y p r)))
 
-  exits-at : (r r′ : RefT (List ℕ)) → Says s b 0 r → Says t i n r′ → ent 𝓤 (⋆ 𝓤 H A (‵ (Own r′ (at r′)) ∷ Token ∷ ‵ (Own s (at s)) ∷ ‵ (Own t (at t)) ∷ ‵ (Own r (at r)) ∷ [])) (Post (vstruct (vcons (at r) (vcons (at r′) vnil))))
+  exits-at : (r r′ : RefT (List ℕ)) → Says s (d .completed) 0 r → Says t (d .inside) (d .place) r′ → ent 𝓤 (⋆ 𝓤 H A (‵ (Own r′ (at r′)) ∷ Token ∷ ‵ (Own r (at r)) ∷ [])) (Post (vstruct (vcons (at r) (vcons (at r′) vnil))))
   exits-at r r′ e e′ =
       let made : View = record { first = r; second = r′ } in
-      let views : Views (now s) (now t) b i n z (now r) (now r′) = record { first-is = e; second-is = e′ } in
-      qed W (‵ (Own r′ (at r′)) ∷ Token ∷ ‵ (Own s (at s)) ∷ ‵ (Own t (at t)) ∷ ‵ (Own r (at r)) ∷ []) ∵
-      suffices ! _ (ends-at 𝓤 H A of.ended stayed (of.clauses 𝓤 H A mem run) W (((κ, tt), (q, tt), tt, (s, (t, (b, (i, (n, (z, tt)))))), vals), tt) (T′.lowered made) made (tt, (tt, (tt, (tt, (tt, (tt, tt)))))) (tt, (tt, (tt, (tt, (tt, (tt, tt))))))) $ says ! views $
+      let views : Views d z (now s) (now t) (now r) (now r′) = record { first-is = e; second-is = e′ } in
+      qed W (‵ (Own r′ (at r′)) ∷ Token ∷ ‵ (Own r (at r)) ∷ []) ∵
+      suffices ! _ (ends-at 𝓤 H A of.ended stayed (of.clauses 𝓤 H A mem run) W (((κ, tt), (q, tt), tt, (d, (z, (s, (t, tt)))), vals), tt) (T′.lowered made) made (tt, (tt, (tt, (tt, tt)))) (tt, (tt, (tt, (tt, tt))))) $ says ! views $
       move ! (1 ∷ []) $ frame ! $
-      -- [what r′ owns; what s owns; what t owns; what r owns]: the parameters first
-      nothing ! $ owned ! usize (Is usize) (uint-makes 𝓤 H A W w64) z _ (refl, z-fits) $ fjoin ! $ owned ! usize (Is usize) (uint-makes 𝓤 H A W w64) n _ (refl, n-fits) $ fjoin ! $
-      owned ! bool (Is bool) (bool-makes 𝓤 H A W) i _ refl $ fjoin ! $ owned ! bool (Is bool) (bool-makes 𝓤 H A W) b _ refl $ fjoin ! $
-      move ! (3 ∷ 0 ∷ []) $ fjoin ! $ move ! (2 ∷ 0 ∷ []) $ fjoin ! $ frame ! $
+      -- [what r′ owns; what r owns]: nothing of the parameters, and the struct
+      nothing ! $ nothing ! $ fjoin ! $ nothing ! $ fjoin ! $ nothing ! $ fjoin ! $ nothing ! $ fjoin ! $ frame ! $
       nothing ! $ move ! (1 ∷ 0 ∷ []) $ fjoin ! $ move ! (1 ∷ 0 ∷ []) $ fjoin ! $ by ! (own-shut 𝓤 H A W (T.the-type α) (T′.the-laws α) (r, (r′, tt)))
 
   -- the same at the machine values that the calls returned
-  exits : (r r′ : RefT (List ℕ)) (u u′ : Val) → u ≡ at r → u′ ≡ at r′ → Says s b 0 r → Says t i n r′ → ent 𝓤 (⋆ 𝓤 H A (‵ (Own r′ u′) ∷ Token ∷ ‵ (Own s (at s)) ∷ ‵ (Own t (at t)) ∷ ‵ (Own r u) ∷ [])) (Post (vstruct (vcons u (vcons u′ vnil))))
+  exits : (r r′ : RefT (List ℕ)) (u u′ : Val) → u ≡ at r → u′ ≡ at r′ → Says s (d .completed) 0 r → Says t (d .inside) (d .place) r′ → ent 𝓤 (⋆ 𝓤 H A (‵ (Own r′ u′) ∷ Token ∷ ‵ (Own r u) ∷ [])) (Post (vstruct (vcons u (vcons u′ vnil))))
   exits r r′ u u′ c c′ e e′ =
-      subst⁻¹ (λ (x : Val). ent 𝓤 (⋆ 𝓤 H A (‵ (Own r′ u′) ∷ Token ∷ ‵ (Own s (at s)) ∷ ‵ (Own t (at t)) ∷ ‵ (Own r x) ∷ [])) (Post (vstruct (vcons x (vcons u′ vnil))))) c
-      (subst⁻¹ (λ (x : Val). ent 𝓤 (⋆ 𝓤 H A (‵ (Own r′ x) ∷ Token ∷ ‵ (Own s (at s)) ∷ ‵ (Own t (at t)) ∷ ‵ (Own r (at r)) ∷ [])) (Post (vstruct (vcons (at r) (vcons x vnil))))) c′ (exits-at r r′ e e′))
-
-  head-is : (u v : Val) → u ∷ [] ≡ v ∷ [] → u ≡ v
-  head-is u v e = cc
+      subst⁻¹ (λ (x : Val). ent 𝓤 (⋆ 𝓤 H A (‵ (Own r′ u′) ∷ Token ∷ ‵ (Own r x) ∷ [])) (Post (vstruct (vcons x (vcons u′ vnil))))) c
+      (subst⁻¹ (λ (x : Val). ent 𝓤 (⋆ 𝓤 H A (‵ (Own r′ x) ∷ Token ∷ ‵ (Own r (at r)) ∷ [])) (Post (vstruct (vcons (at r) (vcons x vnil))))) c′ (exits-at r r′ e e′))
 
   module _ (C : Calls 𝓤 H) (Λ : Loops 𝓤 H) (fm : FmC 𝓤 H (W .laws) C) (known : Triple 𝓤 (C #view·part) (Part 𝓤 H A mem run)) where
-    walk : Is (ShrSlice (named 0) κ u8) s (at s ∷ []) → Is (ShrSlice (named 0) κ u8) t (at t ∷ [])
-        → ent 𝓤 (onEntry 𝓤 H A of.signature (κ, tt) (q, tt) (s, (t, (b, (i, (n, (z, tt)))))) vals) (WpFn 𝓤 H C Λ code.function (at s ∷ at t ∷ vbool b ∷ vbool i ∷ num n ∷ num z ∷ []) Post)
-    walk p p′ =
-        qed W (Token ∷ ‵ (owns (ShrSlice (named 0) κ u8 ∷ ShrSlice (named 0) κ u8 ∷ bool ∷ bool ∷ usize ∷ usize ∷ []) (s, (t, (b, (i, (n, (z, tt)))))) vals) ∷ []) ∵ enter ! C Λ code.function (at s ∷ at t ∷ vbool b ∷ vbool i ∷ num n ∷ num z ∷ []) _ $
-        alloc1 ! (λ l₀. alloc1 ! (λ l₁. alloc1 ! (λ l₂. alloc1 ! (λ l₃. alloc1 ! (λ l₄. alloc1 ! (λ l₅. alloc1 ! (λ l₆. alloc1 ! (λ l₇. alloc1 ! (λ l₈. alloc0 ! $ params1 ! $
-        pass1 ! (init ! 14 refl (shr-slice-lawful 𝓤 H A W (named 0) κ u8 .typed s (at s ∷ []) p .0)) $ pass1 ! (init ! 12 refl (shr-slice-lawful 𝓤 H A W (named 0) κ u8 .typed t (at t ∷ []) p′ .0)) $
-        pass1 ! (init ! 10 refl (tt, tt)) $ pass1 ! (init ! 8 refl (tt, tt)) $ pass1 ! (init ! 6 refl (tt, record { fits = n-fits })) $ pass1 ! (init ! 4 refl (tt, record { fits = z-fits })) $ pass0 ! $
-        -- [_8; …; _7; …; _6; …; _5; …; _4; …; _3; …; _2; …; _1; …; _0; …; the token; what the parameters own]
-        move ! (19 ∷ []) $ fsplit ! $ move ! (1 ∷ []) $ fsplit ! $ move ! (1 ∷ []) $ drop ! $
-        -- [what t owns; what s owns; _8; …; the token]
-        move ! (20 ∷ 1 ∷ []) $ use2 W (raw (Part 𝓤 H A mem run .pre (to s b 0)) ⊛ ‵ (Own s (at s))) (goes s b 0 (lit< tt)) $ split ! $
-        -- [what is asked; what s owns; what t owns; _8; …]
-        calls-at ! fm (Part 𝓤 H A mem run) known (to s b 0) (and-then ! (load ! (from ! (stop !)) (look ! 17 refl)) (and-then ! (load ! (from ! (stop !)) (look ! 13 refl)) (and-then ! (lit ! tt) (and-then ! (load ! (from ! (stop !)) (look ! 7 refl)) (no-more !))))) (λ u.
-        use1 W (later (some (λ (r : RefT (List ℕ)). (Token ⊛ ‵ (Own r u)) ⊛ raw (ensured 𝓤 H A part.ended (part.clauses 𝓤 H A mem run) (κ, tt) (s, (b, (0, (z, tt)))) tt r)))) (id⊢ 𝓤 _) $ await ! tt $ pick ! (λ r.
-        split ! $ move ! (1 ∷ []) $ use1 W (raw (fact 𝓤 (Says s b 0 r))) (said s b 0 r) $ heard ! (Says s b 0 r) (λ e. split ! $ move ! (1 ∷ []) $
+    walk : Holds (hasTy E′.mir mach) × WT mach → Is (ShrSlice (named 0) κ u8) s (at s ∷ []) → Is (ShrSlice (named 0) κ u8) t (at t ∷ [])
+        → ent 𝓤 (onEntry 𝓤 H A of.signature (κ, tt) (q, tt) (d, (z, (s, (t, tt)))) vals) (WpFn 𝓤 H C Λ code.function (mach ∷ num z ∷ at s ∷ at t ∷ []) Post)
+    walk wt p p′ =
+        qed W (Token ∷ ‵ (owns (E.the-row ∷ usize ∷ ShrSlice (named 0) κ u8 ∷ ShrSlice (named 0) κ u8 ∷ []) (d, (z, (s, (t, tt)))) vals) ∷ []) ∵ enter ! C Λ code.function (mach ∷ num z ∷ at s ∷ at t ∷ []) _ $
+        alloc1 ! (λ l₀. alloc1 ! (λ l₁. alloc1 ! (λ l₂. alloc1 ! (λ l₃. alloc1 ! (λ l₄. alloc1 ! (λ l₅. alloc1 ! (λ l₆. alloc0 ! $ params1 ! $
+        pass1 ! (init ! 10 refl wt) $ pass1 ! (init ! 8 refl (tt, record { fits = z-fits })) $
+        pass1 ! (init ! 6 refl (shr-slice-lawful 𝓤 H A W (named 0) κ u8 .typed s (at s ∷ []) p .0)) $ pass1 ! (init ! 4 refl (shr-slice-lawful 𝓤 H A W (named 0) κ u8 .typed t (at t ∷ []) p′ .0)) $ pass0 ! $
+        -- [_6; …; _5; …; _4; …; _3; …; _2; …; _1; …; _0; …; the token; what the parameters own]
+        move ! (15 ∷ []) $ fsplit ! $ drop ! $ fsplit ! $ drop ! $ fsplit ! $ move ! (1 ∷ []) $ fsplit ! $ move ! (1 ∷ []) $ drop ! $
+        -- [what t owns; what s owns; _6; …; the token]
+        move ! (16 ∷ 1 ∷ []) $ use2 W (raw (Part 𝓤 H A mem run .pre (to s (d .completed) 0))) (asked s (d .completed) 0 (lit< tt)) $
+        -- [what is asked; what t owns; _6; …]
+        calls-at ! fm (Part 𝓤 H A mem run) known (to s (d .completed) 0) (and-then ! (load ! (from ! (stop !)) (look ! 8 refl)) (and-then ! (load ! (from ! (fld ! refl (stop !))) (look-in ! 12 (sub ! 1 refl (whole !)))) (and-then ! (lit ! tt) (and-then ! (load ! (from ! (stop !)) (look ! 10 refl)) (no-more !))))) (λ u.
+        use1 W (later (some (λ (r : RefT (List ℕ)). (Token ⊛ ‵ (Own r u)) ⊛ raw (ensured 𝓤 H A part.ended (part.clauses 𝓤 H A mem run) (κ, tt) (s, (d .completed, (0, (z, tt)))) tt r)))) (id⊢ 𝓤 _) $ await ! tt $ pick ! (λ r.
+        split ! $ move ! (1 ∷ []) $ use1 W (raw (fact 𝓤 (Says s (d .completed) 0 r))) (said s (d .completed) 0 r) $ heard ! (Says s (d .completed) 0 r) (λ e. split ! $ move ! (1 ∷ []) $
         peeks ! (ShrSlice (named 0) κ u8) (Is (ShrSlice (named 0) κ u8)) (shows 𝓤 H A (ShrSlice (named 0) κ u8)) r (u ∷ []) (λ is.
-        -- [what r owns; the token; what s owns; what t owns; room for _8; …; room for _7; …]
-        land ! (from ! (stop !)) (init ! 6 refl (shr-slice-lawful 𝓤 H A W erased κ u8 .typed r (u ∷ []) is .0)) $
-        move ! (1 ∷ 3 ∷ []) $ use2 W (raw (Part 𝓤 H A mem run .pre (to t i n)) ⊛ ‵ (Own t (at t))) (goes t i n n-fits) $ split ! $
-        -- [what is asked; what t owns; what r owns; what s owns; _8; …]
-        calls-at ! fm (Part 𝓤 H A mem run) known (to t i n) (and-then ! (load ! (from ! (stop !)) (look ! 16 refl)) (and-then ! (load ! (from ! (stop !)) (look ! 12 refl)) (and-then ! (load ! (from ! (stop !)) (look ! 10 refl)) (and-then ! (load ! (from ! (stop !)) (look ! 8 refl)) (no-more !))))) (λ u′.
-        use1 W (later (some (λ (r′ : RefT (List ℕ)). (Token ⊛ ‵ (Own r′ u′)) ⊛ raw (ensured 𝓤 H A part.ended (part.clauses 𝓤 H A mem run) (κ, tt) (t, (i, (n, (z, tt)))) tt r′)))) (id⊢ 𝓤 _) $ await ! tt $ pick ! (λ r′.
-        split ! $ move ! (1 ∷ []) $ use1 W (raw (fact 𝓤 (Says t i n r′))) (said t i n r′) $ heard ! (Says t i n r′) (λ e′. split ! $ move ! (1 ∷ []) $
+        -- [what r owns; the token; what t owns; room for _6; …; room for _5; …]
+        land ! (from ! (stop !)) (init ! 5 refl (shr-slice-lawful 𝓤 H A W erased κ u8 .typed r (u ∷ []) is .0)) $
+        move ! (1 ∷ 2 ∷ []) $ use2 W (raw (Part 𝓤 H A mem run .pre (to t (d .inside) (d .place)))) (asked t (d .inside) (d .place) place-fits) $
+        -- [what is asked; what r owns; _6; …]
+        calls-at ! fm (Part 𝓤 H A mem run) known (to t (d .inside) (d .place)) (and-then ! (load ! (from ! (stop !)) (look ! 6 refl)) (and-then ! (load ! (from ! (fld ! refl (stop !))) (look-in ! 12 (sub ! 2 refl (whole !)))) (and-then ! (load ! (from ! (fld ! refl (stop !))) (look-in ! 12 (sub ! 3 refl (whole !)))) (and-then ! (load ! (from ! (stop !)) (look ! 10 refl)) (no-more !))))) (λ u′.
+        use1 W (later (some (λ (r′ : RefT (List ℕ)). (Token ⊛ ‵ (Own r′ u′)) ⊛ raw (ensured 𝓤 H A part.ended (part.clauses 𝓤 H A mem run) (κ, tt) (t, (d .inside, (d .place, (z, tt)))) tt r′)))) (id⊢ 𝓤 _) $ await ! tt $ pick ! (λ r′.
+        split ! $ move ! (1 ∷ []) $ use1 W (raw (fact 𝓤 (Says t (d .inside) (d .place) r′))) (said t (d .inside) (d .place) r′) $ heard ! (Says t (d .inside) (d .place) r′) (λ e′. split ! $ move ! (1 ∷ []) $
         peeks ! (ShrSlice (named 0) κ u8) (Is (ShrSlice (named 0) κ u8)) (shows 𝓤 H A (ShrSlice (named 0) κ u8)) r′ (u′ ∷ []) (λ is′.
-        -- [what r′ owns; the token; what t owns; what r owns; what s owns; room for _8; …; _7; …; …; room for _0; …]
-        land ! (from ! (stop !)) (init ! 5 refl (shr-slice-lawful 𝓤 H A W erased κ u8 .typed r′ (u′ ∷ []) is′ .0)) $
-        assigns ! (agg ! (and-then ! (load ! (from ! (stop !)) (look ! 7 refl)) (and-then ! (load ! (from ! (stop !)) (look ! 5 refl)) (no-more !)))) (from ! (stop !))
-        (init ! 21 refl (both-typed u u′ (shr-slice-lawful 𝓤 H A W (named 0) κ u8 .typed r (u ∷ []) is .0) (shr-slice-lawful 𝓤 H A W (named 0) κ u8 .typed r′ (u′ ∷ []) is′ .0))) $
-        returns ! (look ! 21 refl) $ forget ! 5 refl $ forget ! 7 refl $ forget ! 9 refl $ forget ! 11 refl $ forget ! 13 refl $ forget ! 15 refl $ forget ! 17 refl $ forget ! 19 refl $ forget ! 21 refl $
-        move ! (21 ∷ 22 ∷ []) $ free1 ! $ move ! (19 ∷ 20 ∷ []) $ free1 ! $ move ! (17 ∷ 18 ∷ []) $ free1 ! $ move ! (15 ∷ 16 ∷ []) $ free1 ! $ move ! (13 ∷ 14 ∷ []) $ free1 ! $ move ! (11 ∷ 12 ∷ []) $ free1 ! $ move ! (9 ∷ 10 ∷ []) $ free1 ! $ move ! (7 ∷ 8 ∷ []) $ free1 ! $ move ! (5 ∷ 6 ∷ []) $ free1 ! $ free0 ! $
-        move ! (0 ∷ 1 ∷ 4 ∷ 2 ∷ 3 ∷ []) $ by ! (exits r r′ u u′ (head-is u (at r) (is .0 .0)) (head-is u′ (at r′) (is′ .0 .0)) e e′))))))))))))))))))
+        -- [what r′ owns; the token; what r owns; room for _6; …; _5; …; …; room for _0; …]
+        land ! (from ! (stop !)) (init ! 3 refl (shr-slice-lawful 𝓤 H A W erased κ u8 .typed r′ (u′ ∷ []) is′ .0)) $
+        assigns ! (agg ! (and-then ! (load ! (from ! (stop !)) (look ! 5 refl)) (and-then ! (load ! (from ! (stop !)) (look ! 3 refl)) (no-more !)))) (from ! (stop !))
+        (init ! 15 refl (both-typed u u′ (shr-slice-lawful 𝓤 H A W (named 0) κ u8 .typed r (u ∷ []) is .0) (shr-slice-lawful 𝓤 H A W (named 0) κ u8 .typed r′ (u′ ∷ []) is′ .0))) $
+        returns ! (look ! 15 refl) $ forget ! 3 refl $ forget ! 5 refl $ forget ! 7 refl $ forget ! 9 refl $ forget ! 11 refl $ forget ! 13 refl $ forget ! 15 refl $
+        move ! (15 ∷ 16 ∷ []) $ free1 ! $ move ! (13 ∷ 14 ∷ []) $ free1 ! $ move ! (11 ∷ 12 ∷ []) $ free1 ! $ move ! (9 ∷ 10 ∷ []) $ free1 ! $ move ! (7 ∷ 8 ∷ []) $ free1 ! $ move ! (5 ∷ 6 ∷ []) $ free1 ! $ move ! (3 ∷ 4 ∷ []) $ free1 ! $ free0 ! $
+        by ! (exits r r′ u u′ (head-is u (at r) (is .0 .0)) (head-is u′ (at r′) (is′ .0 .0)) e e′))))))))))))))))
 
 module _ {M : Type 1} (𝓤 : URA M) (H : Heap 𝓤) (A : Atoms 𝓤) (W : Given 𝓤 H A) (mem : Memory → SProp 𝓤) (run : Routine → Fun 𝓤) where
   of-walks : (C : Calls 𝓤 H) (Λ : Loops 𝓤 H) → FmC 𝓤 H (W .laws) C → Triple 𝓤 (C #view·part) (Part 𝓤 H A mem run)
       → Walks 𝓤 H A of.ended stayed (WpFn 𝓤 H C Λ code.function) (of.clauses 𝓤 H A mem run)
-  of-walks C Λ fm known = walked 𝓤 H A of.ended stayed (of.clauses 𝓤 H A mem run) (WpFn 𝓤 H C Λ code.function) (λ κs. (slice-vals, (slice-vals, (bool-vals, (bool-vals, (uint-vals w64, (uint-vals w64, tt))))))) (λ κs. (shr-slice-tells (named 0) (κs .0) u8, (shr-slice-tells (named 0) (κs .0) u8, (bool-tells, (bool-tells, (uint-tells w64, (uint-tells w64, tt)))))))
-      (λ κs qs bounds a g are. via 𝓤 _ (fst∗ 𝓤 _ (emp 𝓤))
-      (walk 𝓤 H A W mem run (κs .0) (qs .0) (a .0) (a .1 .0) (a .1 .1 .0) (a .1 .1 .1 .0) (a .1 .1 .1 .1 .0) (a .1 .1 .1 .1 .1 .0) (are .1 .1 .1 .1 .0 .1) (are .1 .1 .1 .1 .1 .0 .1) C Λ fm known (are .0) (are .1 .0)))
+  of-walks C Λ fm known =
+      walked 𝓤 H A of.ended stayed (of.clauses 𝓤 H A mem run) (WpFn 𝓤 H C Λ code.function)
+      (λ κs. (LL.vals E.the-type E′.the-laws, (uint-vals w64, (slice-vals, (slice-vals, tt)))))
+      (λ κs. (LL.tells E.the-type E′.the-laws, (uint-tells w64, (shr-slice-tells (named 0) (κs .0) u8, (shr-slice-tells (named 0) (κs .0) u8, tt)))))
+      (λ κs qs bounds a g are.
+      let wt = LL.lawful E.the-type E′.the-laws 𝓤 H A W .typed (a .0) _ (are .0) .0 in
+      via 𝓤 _ (fst∗ 𝓤 _ (emp 𝓤)) (walk 𝓤 H A W mem run (κs .0) (qs .0) (a .0) (a .1 .0) (a .1 .1 .0) (a .1 .1 .1 .0) (wt .1 .1 .1 .1 .0 .fits) (are .1 .0 .1) C Λ fm known wt (are .1 .1 .0) (are .1 .1 .1 .0)))
 
 of-meets : {M : Type 1} (𝓤 : URA M) (H : Heap 𝓤) (A : Atoms 𝓤) (W : Given 𝓤 H A) (mem : Memory → SProp 𝓤) (run : Routine → Fun 𝓤) (𝓣 : Tables 𝓤 H)
     → Triple 𝓤 (𝓣 .C #view·part) (Part 𝓤 H A mem run)
     → Meets 𝓤 H A of.signature (WpFn 𝓤 H (𝓣 .C) (𝓣 .Λ) code.function) (of.spec 𝓤 H A mem run)
-of-meets 𝓤 H A W mem run 𝓣 known = walk-meets 𝓤 H A of.ended stayed W (goes-none-slice 𝓤 H A W 1 (0 ∷ []) tt (plain (λ _. u8)) yes, (goes-none-slice 𝓤 H A W 1 (0 ∷ []) tt (plain (λ _. u8)) yes, (goes-none 𝓤 H A W 1 (λ _. bool) yes (λ κs x f. refl), (goes-none 𝓤 H A W 1 (λ _. bool) yes (λ κs x f. refl), (goes-none 𝓤 H A W 1 (λ _. usize) yes (λ κs x f. refl), (goes-none 𝓤 H A W 1 (λ _. usize) yes (λ κs x f. refl), tt)))))) (of.clauses 𝓤 H A mem run) (WpFn 𝓤 H (𝓣 .C) (𝓣 .Λ) code.function) (WpFn-mono 𝓤 H (W .laws) 𝓣 code.function)
+of-meets 𝓤 H A W mem run 𝓣 known =
+    walk-meets 𝓤 H A of.ended stayed W
+    (goes-dropped 𝓤 H A W 1 ending yes (λ κs x f. refl), (goes-dropped 𝓤 H A W 1 number yes (λ κs x f. refl), (goes-dropped 𝓤 H A W 1 lent yes (λ κs x f. refl), (goes-dropped 𝓤 H A W 1 lent yes (λ κs x f. refl), tt))))
+    (of.clauses 𝓤 H A mem run) (WpFn 𝓤 H (𝓣 .C) (𝓣 .Λ) code.function) (WpFn-mono 𝓤 H (W .laws) 𝓣 code.function)
     (of-walks 𝓤 H A W mem run (𝓣 .C) (𝓣 .Λ) (fmOf 𝓤 H (W .laws) 𝓣) known)
 
 pub of-spec : {M : Type 1} → stated.statement M

@@ -1,0 +1,36 @@
+-- `probe_sink::probe_handed` meets its contract: the container's bytes written, or nothing. Assumes nothing.
+use denote.Ref.{now}
+use borrow.Author.Needs.{needs}
+use Rattle.probe_sink.proofs.Written.{hands-none, hands-all}
+use Rattle.probe_sink.proofs.probe_handed.Statement.{statement}
+use Rattle.probe_sink.proofs.probe_handed.Tie as tie
+
+au4-requires : tie.Need-au4-requires
+au4-requires c κs = search needs
+
+container-requires : tie.Need-container-requires
+container-requires c κs = search needs
+
+returns : tie.Need-returns
+returns c =
+    let given = c .before in
+    let s = given .before .before .before .before .before in
+    hands-none (given .before .au4 .result) (s .args .ended) (now (s .args .unit)) (now (s .args .done)) (s .args .k) (now (given .container .result)) (given .before .au4 .ensures) (given .container .ensures) (now (s .args .out)) (c .if1 .taken)
+
+copy-at-requires : tie.Need-copy-at-requires
+copy-at-requires c κs = search needs
+
+same-length : tie.Need-same-length
+same-length c = search needs
+
+returns-2 : tie.Need-returns-2
+returns-2 c =
+    let room = c .before .before .before .before in
+    let given = room .before in
+    let s = given .before .before .before .before .before in
+    hands-all (given .before .au4 .result) (s .args .ended) (now (s .args .unit)) (now (s .args .done)) (s .args .k) (now (given .container .result)) (given .before .au4 .ensures) (given .container .ensures) (now (s .args .out)) (c .before .before .copy-at .last .1 .0) (room .if1 .left) (c .before .before .copy-at .ensures)
+
+pub probe-handed-spec : {M : Type 1} → statement M
+probe-handed-spec =
+    tie.close
+    (tie.spec au4-requires container-requires returns copy-at-requires same-length returns-2)
