@@ -266,7 +266,7 @@ def look_at_links(page, text, fault):
         path = os.path.normpath(os.path.join(folder, target))
         if not os.path.exists(os.path.join(ROOT, path)):
             fault(page, f"{target} is not there")
-        elif name and not re.search(rf"^(?:abbrev|unfoldable) pub {re.escape(name)} :", read(path).decode(), re.MULTILINE):
+        elif name and not re.search(rf"^(?:(?:abbrev|unfoldable) pub {re.escape(name)} :|pub record {re.escape(name)}\b)", read(path).decode(), re.MULTILINE):
             fault(page, f"{target} has no definition {name}")
 
 
