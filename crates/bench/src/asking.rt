@@ -80,7 +80,7 @@ pub fn parity(s: &[u8]) {
 // `check`
 pub fn trace_check(s: &[u8]) {
     say::text(b"check ");
-    say::bit(trace::trace_check(s));
+    say::bit(trace_message::trace_check(s));
     say::text(b"\n");
 }
 

@@ -3,11 +3,11 @@ use crate::say;
 use receiving::Ended;
 use receiving::Told;
 use refusals::Answer;
-use report::Actions;
-use report::Causes;
-use report::Defects;
-use report::Flags;
 use sink::Received;
+use unit_end::Actions;
+use unit_end::Causes;
+use unit_end::Defects;
+use unit_end::Flags;
 
 // The sink's settings.
 pub struct Expected {
@@ -16,16 +16,16 @@ pub struct Expected {
     pub flags: Flags,
 }
 
-fn say_state(s: reading::State) {
+fn say_state(s: pointer_rules::State) {
     match s {
-        reading::State::Normal(offset) => {
+        pointer_rules::State::Normal(offset) => {
             say::text(b"ok st=normal off=");
             say::decimal(offset as u64);
         }
-        reading::State::Alarm => {
+        pointer_rules::State::Alarm => {
             say::text(b"ok st=alarm off=-");
         }
-        reading::State::Lost => {
+        pointer_rules::State::Lost => {
             say::text(b"ok st=lost off=-");
         }
     }

@@ -405,7 +405,7 @@ fn rx(s: &[u8], number: u64, before: Expected) -> Expected {
     Expected {
         label: (label.value % 256) as u8,
         trace,
-        flags: report::flags_of((flags.value % 16) as u8),
+        flags: unit_end::flags_of((flags.value % 16) as u8),
     }
 }
 
@@ -668,7 +668,7 @@ fn play(script: &[u8]) {
         violations: 0,
         remote: false,
     };
-    let flags = report::flags_of(0);
+    let flags = unit_end::flags_of(0);
     let expected = Expected {
         label: 1,
         trace: spaces,

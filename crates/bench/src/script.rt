@@ -91,7 +91,7 @@ fn start(s: &[u8], k: usize) -> usize
 pub fn is(s: &[u8], k: usize, name: &[u8]) -> bool {
     let a = start(s, k);
     let e = find(s, a, 0x20);
-    trace::same(&s[a..e], name)
+    trace_message::same(&s[a..e], name)
 }
 
 // One to nine decimal digits, for a number that is at most `most`.

@@ -2,7 +2,7 @@
 // These three refuse nothing: each has an answer for every length.
 ghost use mathlib.Core.Path.{_≡_};
 ghost use Rattle.parity.specs.Parity.{parityOf};
-ghost use Rattle.trace.specs.Check.{traceCheck};
+ghost use Rattle.trace_message.specs.Message.{traceCheck};
 ghost use Rattle.word.specs.Word.{readingOf};
 
 // The exclusive or of all bytes; 00 of none.
@@ -18,7 +18,7 @@ pub extern "C" fn card_parity(bytes: &[u8]) -> u8
 pub extern "C" fn card_trace_check(bytes: &[u8]) -> bool
     ensures { λ r. ⌜ r ≡ traceCheck (now (bytes .entry)) ⌝ }
 {
-    trace::trace_check(bytes)
+    trace_message::trace_check(bytes)
 }
 
 // The pointer word in 2 bytes: 4096 times the NDF kind, 1024 times SS, and the value. 0 for any other number of bytes.

@@ -16,7 +16,7 @@ use Rattle.refusals.proofs.Wrong.{due-none, due-false, none-wrong, outcome-done
 use Rattle.shape.specs.Shape.{Fit}
 use Rattle.shape.specs.declared.Shape.{Shape}
 use Rattle.container.specs.Container.{payloadSize, payloadIn}
-use Rattle.container.specs.Payload.{payloadFaults, handed, Handed, payloadCall, HandsAs, Hands}
+use Rattle.container.specs.Payload.{payloadFaults, payloadHanded, Handed, payloadCall, HandsAs, Hands}
 
 -- no row of the table applies: n bytes of container and m of payload
 pub record Handable (s : Shape) (n m : ℕ) : Type 0 where
@@ -63,19 +63,19 @@ module _ (s : Shape) (container : List ℕ) (ais : Bool) (before : List ℕ) (a 
   hand-refused x e = rw (outcome-refused (payloadFaults s (length container) (length before)) _ _ x cc)
 
   module _ (done : a ≡ Done) (after : List ℕ) where
-    granted : after ≡ handed s container ais → HandsAs s container ais before Done after
+    granted : after ≡ payloadHanded s container ais → HandsAs s container ais before Done after
     unfolding payloadCall
     granted e = rw (outcome-done (payloadFaults s (length container) (length before)) _ _ cc, e)
 
     -- all ones were written
     pub hand-ones : ais ≡ true → after ≡ replicate (length before) 0xff → HandsAs s container ais before Done after
-    unfolding handed
+    unfolding payloadHanded
     hand-ones q e =
         granted (rw q (e ∙ ap (λ (n : ℕ). replicate n 0xff) (handable s (length container) (length before) a is done .payload-is)))
 
     -- the payload was written
     pub hand-payload : ais ≡ false → after ≡ payloadIn (s .columns) container → HandsAs s container ais before Done after
-    unfolding handed
+    unfolding payloadHanded
     hand-payload q e = granted (rw q e)
 
 -- ---- the ends of `payload_call`

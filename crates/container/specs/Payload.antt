@@ -20,8 +20,8 @@ payloadFaults s container payload =
     ++ given 2 Payload (not (eqb payload (payloadSize (s .columns))))
 
 -- what is written where nothing is wrong
-unfoldable pub handed : Shape → List ℕ → Bool → List ℕ
-handed s container ais = cond ais (replicate (payloadSize (s .columns)) 0xff) (payloadIn (s .columns) container)
+unfoldable pub payloadHanded : Shape → List ℕ → Bool → List ℕ
+payloadHanded s container ais = cond ais (replicate (payloadSize (s .columns)) 0xff) (payloadIn (s .columns) container)
 
 -- all that a call leaves: the answer, and the payload's bytes
 pub record Handed : Type 0 where
@@ -32,7 +32,7 @@ pub record Handed : Type 0 where
 unfoldable pub payloadCall : Shape → List ℕ → Bool → List ℕ → Handed
 payloadCall s container ais before =
     outcome (payloadFaults s (length container) (length before))
-    (record { answer = Done; payload = handed s container ais })
+    (record { answer = Done; payload = payloadHanded s container ais })
     (λ x. record { answer = Refused x; payload = before })
 
 -- the answer r is the call's, and the payload is left so

@@ -88,5 +88,5 @@ fn hand(shape: Shape, container: &[u8], ais: bool, payload: &mut [u8]) -> Answer
 pub fn payload_call(container: &[u8], ais: bool, payload: &mut [u8]) -> Answer
     ensures { λ r. ⌜ Hands au4 (now (container .entry)) ais (now (payload .entry)) r (now (payload .exit)) ⌝ }
 {
-    hand(shape::au4(), container, ais, payload)
+    hand(shape::au4_shape(), container, ais, payload)
 }

@@ -6,7 +6,7 @@ use Prim.Native.Nat.{ℕ, zero, suc, _+_, _-_, _*_}
 use native.Mathlib.Nat.{add-zero}
 use native.Mathlib.Numerals.{sub-one}
 use lib.ListN.{getD}
-use Rattle.trace.specs.Check.{startByte, message}
+use Rattle.trace_message.specs.Message.{startByte, message}
 use Rattle.container_source.specs.Overhead.{j1Of, g1Of, overheadOf}
 use Rattle.container_source.specs.declared.State.{State}
 use Rattle.container_source.specs.declared.Given.{Given}

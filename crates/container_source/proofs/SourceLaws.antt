@@ -19,7 +19,7 @@ use Rattle.shape.specs.Shape.{Fit}
 use Rattle.shape.specs.declared.Shape.{Shape}
 use Rattle.container.specs.Container.{payloadSize, rowsOf}
 use Rattle.container_source.specs.Overhead.{overheadOf}
-use Rattle.container_source.specs.Source.{sendFaults, containerSent, stateAfter, Outcome, containerSource, SendsAs, Sends}
+use Rattle.container_source.specs.Source.{sendFaults, containerSent, containerSourceAfter, SentOutcome, containerSource, SendsAs, Sends}
 use Rattle.container_source.specs.declared.State.{State}
 use Rattle.container_source.specs.declared.Given.{Given}
 use Rattle.container_source.specs.declared.Sent.{Sent}
@@ -115,7 +115,7 @@ module _ (s : Shape) (state : State) (g : Given) (trace payload before : List �
       → after ≡ rowsOf (s .columns - 1) overhead payload
       → parity ≡ parityOf after
       → SendsAs s state g trace payload before (record { answer = Done; state = record { place = (state .place + 1) % 16; parity = parity } }) after
-  unfolding containerSource stateAfter containerSent
+  unfolding containerSource containerSourceAfter containerSent
   send-done overhead after parity d o r p =
       rw (outcome-done (sendFaults s (state .place) (g .label) trace (length payload) (length before) (g .violations)) _ _ cc, p, r, o)
 
@@ -132,7 +132,7 @@ unfolding containerSource
 send-said s state g trace payload before r after h =
     let n = send-numbered s (state .place) (g .label) trace (length payload) (length before) (g .violations) in
     record {
-      number-is = ap (λ (o : Outcome). answerSays (o .sent .answer)) h ∙ outcome-said (λ (o : Outcome). o .sent .answer) _ _ _ n refl (λ x. refl);
+      number-is = ap (λ (o : SentOutcome). answerSays (o .sent .answer)) h ∙ outcome-said (λ (o : SentOutcome). o .sent .answer) _ _ _ n refl (λ x. refl);
       outcome-is = h;
     }
 

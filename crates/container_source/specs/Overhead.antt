@@ -3,7 +3,7 @@ use Prim.Native.Nat.{ℕ, _+_, _*_}
 use mathlib.Core.Bool.{Bool, cond}
 use mathlib.Core.List.{List, [], _∷_}
 use lib.ListN.{getD}
-use Rattle.trace.specs.Check.{message}
+use Rattle.trace_message.specs.Message.{message}
 use Rattle.container_source.specs.declared.State.{State}
 use Rattle.container_source.specs.declared.Given.{Given}
 

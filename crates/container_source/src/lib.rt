@@ -1,11 +1,11 @@
 // The container source, the sending end of a path: the overhead of each container, what is refused, and the state from one container to the next.
-// The definitions stand in specs/: Overhead (the nine bytes), Source (the call). The theorems about what it sends are in the crate `sending`.
+// The definitions stand in specs/: Overhead (the nine bytes), Source (the call). The theorems about what it sends are in the crate `container_source_theorems`.
 ghost use mathlib.Core.Path.{_≡_};
 ghost use Prim.Native.Nat.{_≤_};
 ghost use Rattle.shape.specs.Shape.{au4, Fit};
 ghost use Rattle.refusals.specs.Refusals.{answerOf};
 ghost use Rattle.container_source.specs.Overhead.{j1Of, g1Of, overheadOf};
-ghost use Rattle.container_source.specs.Source.{freshState, sendFaults, SendsAs, Sends};
+ghost use Rattle.container_source.specs.Source.{freshContainerSource, sendFaults, SendsAs, Sends};
 use refusals::Answer;
 use refusals::Refusal;
 use shape::Shape;
@@ -41,7 +41,7 @@ pub struct Sent {
 
 // A source that has sent nothing.
 pub fn fresh() -> State
-    ensures { λ r. ⌜ r ≡ freshState ⌝ }
+    ensures { λ r. ⌜ r ≡ freshContainerSource ⌝ }
 {
     State {
         place: 0,
@@ -55,7 +55,7 @@ fn j1(place: u8, characters: [u8; 15]) -> u8
     ensures { λ r. ⌜ r ≡ j1Of place characters ⌝ }
 {
     if place == 0 {
-        return trace::start_byte(&characters);
+        return trace_message::start_byte(&characters);
     }
     let k = (place - 1) as usize;
     characters[k]
@@ -168,5 +168,5 @@ pub fn container_source(
 ) -> Sent
     ensures { λ r. ⌜ Sends au4 s g (now (characters .entry)) (now (payload .entry)) (now (container .entry)) r (now (container .exit)) ⌝ }
 {
-    send(shape::au4(), s, g, characters, payload, container)
+    send(shape::au4_shape(), s, g, characters, payload, container)
 }

@@ -13,7 +13,7 @@ use Rattle.copier.proofs.Parts.{rest-is, put-both}
 use Rattle.shape.specs.Shape.{unitLength}
 use Rattle.shape.specs.declared.Shape.{Shape}
 use Rattle.cut.specs.declared.Cut.{Cut}
-use Rattle.cut.proofs.Within.{left-is, left-low}
+use Rattle.cut.proofs.Within.{rest-count, rest-low}
 use Rattle.cut.specs.Cut.{Line, Cuts, cutOf, completedOf, doneOf, heldOf}
 
 -- no container was begun
@@ -37,17 +37,17 @@ completed-is s kept from unit held done p q l h n e f =
     (put-both done p q (take kept held) (take (s .size - kept) (drop from unit)) kept
     (length-take-le kept held (omega (arith, l .kept-low))) e (f ∙ ap (λ (j : ℕ). take j (drop from unit)) k))
 
--- `&mut held[..left]` came back as p, with the unit's end
+-- `&mut held[..rest]` came back as p, with the unit's end
 pub kept-is : (unit held p : List ℕ) (begin left : ℕ) → p ≡ take (length unit - begin) (drop begin unit) → p ++ drop left held ≡ drop begin unit ++ drop left held
 kept-is unit held p begin left e = ap (λ (z : List ℕ). z ++ drop left held) (e ∙ rest-is unit begin)
 
 -- what is left over is the unit's end, and has its place in `held`
 pub keeps : (s : Shape) (kept from : ℕ) (unit held : List ℕ) (c : Cut) → Line s kept from → length unit ≡ unitLength s → length held ≡ s .size → c ≡ cutOf s kept from
-    → (length unit ≡ c .begin + c .left) × (c .left ≤ length held)
-keeps s kept from unit held c l u h e = rw (e, u, h) (left-is s kept from l, left-low s kept from l)
+    → (length unit ≡ c .begin + c .rest) × (c .rest ≤ length held)
+keeps s kept from unit held c l u h e = rw (e, u, h) (rest-count s kept from l, rest-low s kept from l)
 
 -- one unit
 pub unit-cut : (s : Shape) (kept from : ℕ) (unit held done held′ done′ : List ℕ) (c : Cut) → c ≡ cutOf s kept from
-    → held′ ≡ drop (c .begin) unit ++ drop (c .left) held → done′ ≡ doneOf s (cutOf s kept from) unit held done → Cuts s kept from unit held done c held′ done′
+    → held′ ≡ drop (c .begin) unit ++ drop (c .rest) held → done′ ≡ doneOf s (cutOf s kept from) unit held done → Cuts s kept from unit held done c held′ done′
 unfolding heldOf
 unit-cut s kept from unit held done held′ done′ c e h d = record { cut-is = e; held-is = h ∙ ap (λ (x : Cut). heldOf x unit held) e; done-is = d }

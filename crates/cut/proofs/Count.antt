@@ -16,7 +16,7 @@ use Rattle.cut.proofs.Lines.{line-goes, line-restarts}
 
 -- what is held, and how many end, as a container begins at `next` and so many ended before
 record After (s : Shape) (before next k m : ℕ) : Type 0 where
-  left-is : unitLength s - beginOf s next ≡ m
+  rest-is : unitLength s - beginOf s next ≡ m
   ended-is : before + cond (insideOf s next) 1 0 ≡ k
 
 -- it does not end
@@ -24,14 +24,14 @@ none-inside : (s : Shape) (before next m : ℕ) → next + m ≡ unitLength s �
 unfolding beginOf insideOf
 none-inside s before next m e h =
     let out : leb next (3 * s .step) ≡ false = lt-leb next (3 * s .step) (omega arith) in
-    record { left-is = simp out (omega arith); ended-is = simp out (omega arith) }
+    record { rest-is = simp out (omega arith); ended-is = simp out (omega arith) }
 
 -- it ends
 one-inside : (s : Shape) (before next m : ℕ) → next + (s .size + m) ≡ unitLength s → After s before next (suc before) m
 unfolding beginOf insideOf
 one-inside s before next m e =
     let in-it : leb next (3 * s .step) ≡ true = le-leb next (3 * s .step) (omega arith) in
-    record { left-is = simp in-it (omega arith); ended-is = simp in-it (omega arith) }
+    record { rest-is = simp in-it (omega arith); ended-is = simp in-it (omega arith) }
 
 -- n bytes held and a run that begins at `from` balance k containers and m bytes: no other k and m do
 module _ (s : Shape) (n from : ℕ) (l : Line s n from) where
@@ -45,9 +45,9 @@ module _ (s : Shape) (n from : ℕ) (l : Line s n from) where
   after-by (suc (suc zero)) m h e false t = let z = ltb-false 0 n t in absurd (omega (arith, l .fit .two, l .fit .some, l .behind))
   after-by (suc (suc (suc k))) m h e b t = absurd (omega (arith, l .fit .two, l .fit .some, l .behind, l .kept-low))
 
-  left-by : (k m : ℕ) → m + s .step ≤ s .size → Balanced s n from k m → cutOf s n from .left ≡ m
+  rest-by : (k m : ℕ) → m + s .step ≤ s .size → Balanced s n from k m → cutOf s n from .rest ≡ m
   unfolding cutOf nextOf
-  left-by k m h e = after-by k m h e (ltb 0 n) refl .left-is
+  rest-by k m h e = after-by k m h e (ltb 0 n) refl .rest-is
 
   ended-by : (k m : ℕ) → m + s .step ≤ s .size → Balanced s n from k m → endedCount (cutOf s n from) ≡ k
   unfolding endedCount cutOf nextOf
@@ -56,11 +56,11 @@ module _ (s : Shape) (n from : ℕ) (l : Line s n from) where
 -- ---- a unit that goes on
 
 -- "a normal state's held count": every unit leaves it so
-pub left-goes : (s : Shape) (a : Adjustment) (v : ℕ) → Fit s → v ≤ s .top
-    → cutOf s (heldCount s v) (runFrom (s .step) a) .left ≡ heldCount s (offsetAfter (s .top) a v)
-left-goes s a v f h =
+pub rest-goes : (s : Shape) (a : Adjustment) (v : ℕ) → Fit s → v ≤ s .top
+    → cutOf s (heldCount s v) (runFrom (s .step) a) .rest ≡ heldCount s (offsetAfter (s .top) a v)
+rest-goes s a v f h =
     let w = offsetAfter (s .top) a v in
-    left-by s (heldCount s v) (runFrom (s .step) a) (line-goes s a v f h) (endedBy a v) (heldCount s w) (held-low s w f) (balance s a v f h)
+    rest-by s (heldCount s v) (runFrom (s .step) a) (line-goes s a v f h) (endedBy a v) (heldCount s w) (held-low s w f) (balance s a v f h)
 
 pub ends-goes : (s : Shape) (a : Adjustment) (v : ℕ) → Fit s → v ≤ s .top → endedCount (cutOf s (heldCount s v) (runFrom (s .step) a)) ≡ endedBy a v
 ends-goes s a v f h =
@@ -76,9 +76,9 @@ restart-balance s (suc w) f h =
     let some : eqb (suc w) 0 ≡ false = ne-eqb (suc w) 0 (λ e. omega arith) in
     simp some (omega (arith, held-some s w, place-low s (suc w) f h))
 
-pub left-restarts : (s : Shape) (w : ℕ) → Fit s → w ≤ s .top → cutOf s 0 (3 * s .step + placeOf s w) .left ≡ heldCount s w
-left-restarts s w f h =
-    left-by s 0 (3 * s .step + placeOf s w) (line-restarts s w f h) (cond (eqb w 0) 1 0) (heldCount s w) (held-low s w f) (restart-balance s w f h)
+pub rest-restarts : (s : Shape) (w : ℕ) → Fit s → w ≤ s .top → cutOf s 0 (3 * s .step + placeOf s w) .rest ≡ heldCount s w
+rest-restarts s w f h =
+    rest-by s 0 (3 * s .step + placeOf s w) (line-restarts s w f h) (cond (eqb w 0) 1 0) (heldCount s w) (held-low s w f) (restart-balance s w f h)
 
 pub ends-restarts : (s : Shape) (w : ℕ) → Fit s → w ≤ s .top → endedCount (cutOf s 0 (3 * s .step + placeOf s w)) ≡ cond (eqb w 0) 1 0
 ends-restarts s w f h =

@@ -33,14 +33,14 @@ units =
 -- P4: one is completed and none begun. P5: one is completed, and one ends inside, from place 9.
 -- Started anew at 0: one ends inside; at 522: what begins at byte offset 1566 is held.
 pub table : units
-    ≡ record { kept = 0; from = 9; ends = false; next = 9; inside = true; begin = 2358; left = 0 }
-    ∷ record { kept = 2346; from = 9; ends = true; next = 12; inside = false; begin = 12; left = 2346 }
-    ∷ record { kept = 0; from = 12; ends = false; next = 12; inside = false; begin = 12; left = 2346 }
-    ∷ record { kept = 0; from = 6; ends = false; next = 6; inside = true; begin = 2355; left = 3 }
-    ∷ record { kept = 3; from = 12; ends = true; next = 2358; inside = false; begin = 2358; left = 0 }
-    ∷ record { kept = 2346; from = 6; ends = true; next = 9; inside = true; begin = 2358; left = 0 }
-    ∷ record { kept = 0; from = 9; ends = false; next = 9; inside = true; begin = 2358; left = 0 }
-    ∷ record { kept = 0; from = 1575; ends = false; next = 1575; inside = false; begin = 1575; left = 783 }
+    ≡ record { kept = 0; from = 9; ends = false; next = 9; inside = true; begin = 2358; rest = 0 }
+    ∷ record { kept = 2346; from = 9; ends = true; next = 12; inside = false; begin = 12; rest = 2346 }
+    ∷ record { kept = 0; from = 12; ends = false; next = 12; inside = false; begin = 12; rest = 2346 }
+    ∷ record { kept = 0; from = 6; ends = false; next = 6; inside = true; begin = 2355; rest = 3 }
+    ∷ record { kept = 3; from = 12; ends = true; next = 2358; inside = false; begin = 2358; rest = 0 }
+    ∷ record { kept = 2346; from = 6; ends = true; next = 9; inside = true; begin = 2358; rest = 0 }
+    ∷ record { kept = 0; from = 9; ends = false; next = 9; inside = true; begin = 2358; rest = 0 }
+    ∷ record { kept = 0; from = 1575; ends = false; next = 1575; inside = false; begin = 1575; rest = 783 }
     ∷ []
 unfolding units goes restarts heldCount runFrom nextOf insideOf beginOf cutOf
 table = refl

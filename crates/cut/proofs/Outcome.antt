@@ -11,7 +11,7 @@ use Rattle.laws.proofs.Tests.{by-test}
 use Rattle.shape.specs.declared.Shape.{Shape}
 use Rattle.cut.specs.Cut.{Line, Sizes, cutOf, completedOf, insidePart, oneIf, endedOf, endedCount, doneOf, heldOf}
 use Rattle.cut.specs.declared.Cut.{Cut}
-use Rattle.cut.proofs.Within.{inside-fits, left-is, left-low}
+use Rattle.cut.proofs.Within.{inside-fits, rest-count, rest-low}
 
 -- ---- what ended
 
@@ -54,4 +54,4 @@ module _ (s : Shape) (kept from : ℕ) (unit held done : List ℕ) (l : Line s k
 
   pub held-length : length (heldOf (cutOf s kept from) unit held) ≡ s .size
   unfolding heldOf
-  held-length = simp (length-append, length-drop) (omega (arith, z .unit-is, z .held-is, left-is s kept from l, left-low s kept from l))
+  held-length = simp (length-append, length-drop) (omega (arith, z .unit-is, z .held-is, rest-count s kept from l, rest-low s kept from l))

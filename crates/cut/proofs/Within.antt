@@ -47,10 +47,10 @@ module _ (s : Shape) (kept from : ℕ) (l : Line s kept from) where
   inside-fits e = omega (arith, leb-true (nextOf s kept from) (3 * s .step) e)
 
   -- what is left is the unit's end, and no more than a container
-  pub left-is : unitLength s ≡ cutOf s kept from .begin + cutOf s kept from .left
+  pub rest-count : unitLength s ≡ cutOf s kept from .begin + cutOf s kept from .rest
   unfolding cutOf
-  left-is = omega (arith, begins .within)
+  rest-count = omega (arith, begins .within)
 
-  pub left-low : cutOf s kept from .left ≤ s .size
+  pub rest-low : cutOf s kept from .rest ≤ s .size
   unfolding cutOf
-  left-low = omega (arith, begins .behind)
+  rest-low = omega (arith, begins .behind)

@@ -36,7 +36,7 @@ cutAt s kept from next =
       next = next;
       inside = insideOf s next;
       begin = beginOf s next;
-      left = unitLength s - beginOf s next;
+      rest = unitLength s - beginOf s next;
     }
 
 unfoldable pub cutOf : Shape → ℕ → ℕ → Cut
@@ -71,7 +71,7 @@ doneOf s c unit held done = cond (c .ends) (completedOf s c unit held) done
 
 -- "what begins and does not end goes to the held buffer from its first byte"
 unfoldable pub heldOf : Cut → List ℕ → List ℕ → List ℕ
-heldOf c unit held = drop (c .begin) unit ++ drop (c .left) held
+heldOf c unit held = drop (c .begin) unit ++ drop (c .rest) held
 
 -- ---- what may be asked, and what is promised
 

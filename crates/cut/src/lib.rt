@@ -23,7 +23,7 @@ pub struct Cut {
     // the place from which the unit's bytes are held
     pub begin: usize,
     // how many bytes are held after the unit
-    pub left: usize,
+    pub rest: usize,
 }
 
 // The place after the container begun earlier.
@@ -62,7 +62,7 @@ fn places(shape: Shape, kept: usize, from: usize) -> Cut
         next,
         inside: next <= 3 * shape.step,
         begin,
-        left: 3 * shape.step + shape.size - begin,
+        rest: 3 * shape.step + shape.size - begin,
     }
 }
 
@@ -80,11 +80,11 @@ fn complete(shape: Shape, kept: usize, from: usize, unit: &[u8], held: &[u8], do
 }
 
 // What begins and does not end goes to `held` from its first byte; the bytes after it stay.
-fn keep(begin: usize, left: usize, unit: &[u8], held: &mut [u8])
-    requires { ⌜ (length (now unit) ≡ begin + left) × (left ≤ length (now held)) ⌝ }
-    ensures { λ _. ⌜ now (held .exit) ≡ drop begin (now (unit .entry)) ++ drop left (now (held .entry)) ⌝ }
+fn keep(begin: usize, rest: usize, unit: &[u8], held: &mut [u8])
+    requires { ⌜ (length (now unit) ≡ begin + rest) × (rest ≤ length (now held)) ⌝ }
+    ensures { λ _. ⌜ now (held .exit) ≡ drop begin (now (unit .entry)) ++ drop rest (now (held .entry)) ⌝ }
 {
-    copier::copy_long(&unit[begin..], &mut held[..left]);
+    copier::copy_long(&unit[begin..], &mut held[..rest]);
 }
 
 // One unit: its cut, and both buffers after it.
@@ -101,8 +101,8 @@ pub fn cut_unit(
 {
     let cut = places(shape, kept, from);
     let begin = cut.begin;
-    let left = cut.left;
+    let rest = cut.rest;
     complete(shape, kept, from, unit, held, done);
-    keep(begin, left, unit, held);
+    keep(begin, rest, unit, held);
     cut
 }

@@ -4,9 +4,9 @@ use mathlib.Core.List.{[], _∷_, _++_}
 use lib.ListN.{replicate}
 use Rattle.text.specs.Text.{decimalIn, decimalOf, hexDigit}
 use Rattle.records.specs.Record.{circuitIn, labelIn, traceIn, flagsIn}
-use Rattle.records.specs.Refusals.{numberOf, placesOf}
+use Rattle.records.specs.Refusals.{catalogueNumber, cataloguePlaces}
 use Rattle.records.specs.declared.Refusal.the-variants.{Length, Repeated}
-use Rattle.listing.specs.Listing.{numberAndLabel, traceAndFlags, lineOf, spaced, refusalLine}
+use Rattle.listing.specs.Listing.{numberAndLabel, traceAndFlags, lineOf, blankBefore, refusalLine}
 
 -- "5A 4D 00 07 12, `03E5` with eleven spaces, 0F": `7 12 [03E5           ] 15`
 paper-line : lineOf (0x5a ∷ 0x4d ∷ 0x00 ∷ 0x07 ∷ 0x12 ∷ 0x30 ∷ 0x33 ∷ 0x45 ∷ 0x35 ∷ (replicate 11 0x20 ++ (0x0f ∷ [])))
@@ -16,10 +16,10 @@ paper-line = refl
 
 -- `13 5 2`
 repeated-line : refusalLine (Repeated 5 2) ≡ 0x31 ∷ 0x33 ∷ 0x20 ∷ 0x35 ∷ 0x20 ∷ 0x32 ∷ 0x0a ∷ []
-unfolding refusalLine spaced numberOf placesOf decimalOf decimalIn
+unfolding refusalLine blankBefore catalogueNumber cataloguePlaces decimalOf decimalIn
 repeated-line = refl
 
 -- `9`
 length-line : refusalLine Length ≡ 0x39 ∷ 0x0a ∷ []
-unfolding refusalLine spaced numberOf placesOf decimalOf decimalIn
+unfolding refusalLine blankBefore catalogueNumber cataloguePlaces decimalOf decimalIn
 length-line = refl

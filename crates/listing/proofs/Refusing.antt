@@ -7,10 +7,10 @@ use lib.ListN.{length}
 use Rattle.text.specs.Text.{decimalOf, Written}
 use Rattle.text.proofs.Digits.{length-most}
 use Rattle.text.proofs.Pieces.{length-written, written-none}
-use Rattle.records.specs.Refusals.{numberOf, placesOf}
+use Rattle.records.specs.Refusals.{catalogueNumber, cataloguePlaces}
 use Rattle.records.specs.declared.Refusal.{Refusal}
 use Rattle.records.specs.declared.Refusal.the-variants.{Length, Repeated, NotListed}
-use Rattle.listing.specs.Listing.{spaced, refusalLine, Short, Within}
+use Rattle.listing.specs.Listing.{blankBefore, refusalLine, Short, Within}
 use Rattle.listing.proofs.Writing.{within, within-number, within-then}
 
 -- ---- a place
@@ -25,40 +25,40 @@ module _ (b m : List ℕ) (at i p : ℕ) (h : at + 21 ≤ length b) (w : Written
 -- ---- no place, one, and two
 
 module _ {x : Refusal} where
-  pub of-length : x ≡ Length → placesOf x ≡ []
-  unfolding placesOf
+  pub of-length : x ≡ Length → cataloguePlaces x ≡ []
+  unfolding cataloguePlaces
   of-length e = rw e
 
-  pub of-not-listed : x ≡ NotListed → placesOf x ≡ []
-  unfolding placesOf
+  pub of-not-listed : x ≡ NotListed → cataloguePlaces x ≡ []
+  unfolding cataloguePlaces
   of-not-listed e = rw e
 
   -- y names the place q, which was read as p
-  pub of-one : {y : Refusal} {p q : ℕ} → x ≡ y → placesOf y ≡ q ∷ [] → p ≡ q → placesOf x ≡ p ∷ []
+  pub of-one : {y : Refusal} {p q : ℕ} → x ≡ y → cataloguePlaces y ≡ q ∷ [] → p ≡ q → cataloguePlaces x ≡ p ∷ []
   of-one e f g = rw (e, f, g)
 
-  pub of-repeated : {p q : ℕ} → x ≡ Repeated p q → placesOf x ≡ p ∷ q ∷ []
-  unfolding placesOf
+  pub of-repeated : {p q : ℕ} → x ≡ Repeated p q → cataloguePlaces x ≡ p ∷ q ∷ []
+  unfolding cataloguePlaces
   of-repeated e = rw e
 
 module _ (b : List ℕ) (ps : List ℕ) (at : ℕ) where
-  pub places-none : ps ≡ [] → Within 42 at (spaced ps) b b at
-  unfolding spaced
+  pub places-none : ps ≡ [] → Within 42 at (blankBefore ps) b b at
+  unfolding blankBefore
   places-none e = rw e (within 42 (written-none at b) (omega arith))
 
-  pub places-one : (a : List ℕ) (n p : ℕ) → ps ≡ p ∷ [] → Within 21 at (0x20 ∷ decimalOf p) b a n → Within 42 at (spaced ps) b a n
-  unfolding spaced
+  pub places-one : (a : List ℕ) (n p : ℕ) → ps ≡ p ∷ [] → Within 21 at (0x20 ∷ decimalOf p) b a n → Within 42 at (blankBefore ps) b a n
+  unfolding blankBefore
   places-one a n p e w = rw (e, append-nil) (record { written = w .written; short = omega arith })
 
   pub places-two : (m a : List ℕ) (i n p q : ℕ) → ps ≡ p ∷ q ∷ [] → at + 42 ≤ length b
-      → Within 21 at (0x20 ∷ decimalOf p) b m i → Within 21 i (0x20 ∷ decimalOf q) m a n → Within 42 at (spaced ps) b a n
-  unfolding spaced
+      → Within 21 at (0x20 ∷ decimalOf p) b m i → Within 21 i (0x20 ∷ decimalOf q) m a n → Within 42 at (blankBefore ps) b a n
+  unfolding blankBefore
   places-two m a i n p q e h w v = rw (e, append-nil) (within-then w v (omega arith))
 
 -- ---- the line
 
-pub refusal-written : (x : Refusal) (b m m′ a : List ℕ) (i j n y : ℕ) → 46 ≤ length b → Short 3 (numberOf x) y
-    → Written 0 (decimalOf y) b m i → Within 42 i (spaced (placesOf x)) m m′ j → Written j (0x0a ∷ []) m′ a n
+pub refusal-written : (x : Refusal) (b m m′ a : List ℕ) (i j n y : ℕ) → 46 ≤ length b → Short 3 (catalogueNumber x) y
+    → Written 0 (decimalOf y) b m i → Within 42 i (blankBefore (cataloguePlaces x)) m m′ j → Written j (0x0a ∷ []) m′ a n
     → Written 0 (refusalLine x) b a n
 unfolding refusalLine
 refusal-written x b m m′ a i j n y h s w v u =

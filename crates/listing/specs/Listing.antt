@@ -7,7 +7,7 @@ use lib.ListN.{length}
 use Rattle.copier.specs.Put.{put}
 use Rattle.text.specs.Text.{decimalOf, hexOf, Written}
 use Rattle.records.specs.Record.{recordAt, circuitIn, labelIn, traceIn, flagsIn}
-use Rattle.records.specs.Refusals.{numberOf, placesOf}
+use Rattle.records.specs.Refusals.{catalogueNumber, cataloguePlaces}
 use Rattle.catalogue.specs.Catalogue.{checkOf}
 use Rattle.records.specs.declared.Refusal.{Refusal}
 use Rattle.catalogue.specs.declared.Checked.{Checked}
@@ -39,13 +39,13 @@ linesFrom s k zero = []
 linesFrom s k (suc n) = lineOf (recordAt s k) ++ linesFrom s (k + 1) n
 
 -- numbers, a blank before each
-unfoldable pub spaced : List ℕ → List ℕ
-spaced [] = []
-spaced (x ∷ xs) = 0x20 ∷ (decimalOf x ++ spaced xs)
+unfoldable pub blankBefore : List ℕ → List ℕ
+blankBefore [] = []
+blankBefore (x ∷ xs) = 0x20 ∷ (decimalOf x ++ blankBefore xs)
 
 -- a refusal: `13 5 2`
 unfoldable pub refusalLine : Refusal → List ℕ
-refusalLine x = decimalOf (numberOf x) ++ (spaced (placesOf x) ++ (0x0a ∷ []))
+refusalLine x = decimalOf (catalogueNumber x) ++ (blankBefore (cataloguePlaces x) ++ (0x0a ∷ []))
 
 unfoldable pub textOf : List ℕ → Checked → List ℕ
 textOf s (Good n) = heading ++ linesFrom s 0 n

@@ -8,8 +8,8 @@ ghost use Prim.Native.Nat.{_+_, _*_, _<_, _≤_};
 ghost use lib.ListN.{length};
 ghost use Rattle.text.specs.Text.{decimalOf, Written};
 ghost use Rattle.records.specs.Record.{circuitIn, flagsIn};
-ghost use Rattle.records.specs.Refusals.{numberOf, placesOf};
-ghost use Rattle.listing.specs.Listing.{heading, numberAndLabel, traceAndFlags, lineOf, linesFrom, spaced, refusalLine, Short, Within, Listed};
+ghost use Rattle.records.specs.Refusals.{catalogueNumber, cataloguePlaces};
+ghost use Rattle.listing.specs.Listing.{heading, numberAndLabel, traceAndFlags, lineOf, linesFrom, blankBefore, refusalLine, Short, Within, Listed};
 
 // A byte as a number of 64 bits.
 fn wide(x: u8) -> u64
@@ -101,7 +101,7 @@ fn place(out: &mut [u8], at: usize, p: usize) -> usize
 // The places that a refusal names: for 13 the later record's, and then the first's; for 9 none.
 fn places(out: &mut [u8], at: usize, x: Refusal) -> usize
     requires { ⌜ at + 42 ≤ length (now out) ⌝ }
-    ensures { λ n. ⌜ Within 42 at (spaced (placesOf x)) (now (out .entry)) (now (out .exit)) n ⌝ }
+    ensures { λ n. ⌜ Within 42 at (blankBefore (cataloguePlaces x)) (now (out .entry)) (now (out .exit)) n ⌝ }
 {
     match x {
         Refusal::Length => at,
@@ -120,7 +120,7 @@ fn places(out: &mut [u8], at: usize, x: Refusal) -> usize
 
 // A refusal's number, of one byte.
 fn number(x: Refusal) -> u64
-    ensures { λ n. ⌜ Short 3 (numberOf x) n ⌝ }
+    ensures { λ n. ⌜ Short 3 (catalogueNumber x) n ⌝ }
 {
     wide(records::number(x))
 }

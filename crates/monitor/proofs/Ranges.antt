@@ -9,18 +9,18 @@ use lib.Dec.{eqb, ltb, leb}
 use borrow.Author.Tests.{le-leb, leb-true, ltb-true, eqb-true}
 use Rattle.laws.proofs.Tests.{by-test, and-left, and-right}
 use Rattle.counts.specs.Counts.{more, runOn}
-use Rattle.trace.specs.Check.{alike}
+use Rattle.trace_message.specs.Message.{alike}
 use Rattle.overhead.specs.declared.Label.{Label}
 use Rattle.overhead.specs.declared.Defect.{Defect}
 use Rattle.overhead.specs.Labels.{labelOf}
 use Rattle.overhead.specs.Defects.{defectOf, remoteOf}
-use Rattle.message.specs.declared.Gathered.{Gathered}
-use Rattle.message.specs.declared.Trace.{Trace}
-use Rattle.message.specs.Trace.{gatheredOf, endsGood, spoils, withGood, withoutGood, traceOf, blankTrace}
+use Rattle.trace_monitor.specs.declared.Gathered.{Gathered}
+use Rattle.trace_monitor.specs.declared.Trace.{Trace}
+use Rattle.trace_monitor.specs.Trace.{gatheredOf, endsGood, spoils, withGood, withoutGood, traceOf, blankTrace}
 use Rattle.monitor.specs.declared.Overhead.{Overhead}
 use Rattle.monitor.specs.declared.Expected.{Expected}
 use Rattle.monitor.specs.declared.Monitor.{Monitor}
-use Rattle.monitor.specs.Monitoring.{blankOf, stepOf, inRange}
+use Rattle.monitor.specs.Monitoring.{blankOf, monitorStep, monitorInRange}
 
 -- a run of equal ones stops at the end of its range
 run-most : (same : Bool) (run most : ℕ) → 1 ≤ most → runOn same run most ≤ most
@@ -83,8 +83,8 @@ trace-range t j1 expected h =
 -- ---- the monitor
 
 -- what is asked of the monitor before
-run-in : (m : Monitor) → inRange m ≡ true → m .trace .run ≤ 3
-unfolding inRange
+run-in : (m : Monitor) → monitorInRange m ≡ true → m .trace .run ≤ 3
+unfolding monitorInRange
 run-in m h =
     let a =
     leb (m .label .run) 5
@@ -96,8 +96,8 @@ run-in m h =
     let b = leb (m .trace .run) 3 in
     leb-true (m .trace .run) 3 (and-right a b (and-left (a && b) (leb (m .trace .without) 48) h))
 
-pub step-in : (m : Monitor) (c : Overhead) (e : Expected) → m .trace .run ≤ 3 → inRange (stepOf m c e) ≡ true
-unfolding inRange stepOf
+pub step-in : (m : Monitor) (c : Overhead) (e : Expected) → m .trace .run ≤ 3 → monitorInRange (monitorStep m c e) ≡ true
+unfolding monitorInRange monitorStep
 step-in m c e h =
     let t = trace-range (m .trace) (c .j1) (e .trace) h in
     rw (
@@ -111,9 +111,9 @@ step-in m c e h =
       le-leb _ 48 (t .without),
     )
 
-pub step-range : (m : Monitor) (c : Overhead) (e : Expected) → inRange m ≡ true → inRange (stepOf m c e) ≡ true
+pub step-range : (m : Monitor) (c : Overhead) (e : Expected) → monitorInRange m ≡ true → monitorInRange (monitorStep m c e) ≡ true
 step-range m c e h = step-in m c e (run-in m h)
 
-pub blank-range : (n : ℕ) → n ≤ 48 → inRange (blankOf n) ≡ true
-unfolding inRange blankOf blankTrace
+pub blank-range : (n : ℕ) → n ≤ 48 → monitorInRange (blankOf n) ≡ true
+unfolding monitorInRange blankOf blankTrace
 blank-range n h = le-leb n 48 h

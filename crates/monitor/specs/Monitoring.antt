@@ -6,7 +6,7 @@ use Rattle.overhead.specs.declared.Defect.{Defect}
 use Rattle.overhead.specs.Violations.{violationsOf, keptOf}
 use Rattle.overhead.specs.Labels.{labelOf}
 use Rattle.overhead.specs.Defects.{defectOf, remoteOf, returnedOf}
-use Rattle.message.specs.Trace.{traceOf, blankTrace}
+use Rattle.trace_monitor.specs.Trace.{traceOf, blankTrace}
 use Rattle.monitor.specs.declared.Overhead.{Overhead}
 use Rattle.monitor.specs.declared.Expected.{Expected}
 use Rattle.monitor.specs.declared.Monitor.{Monitor}
@@ -31,8 +31,8 @@ blankOf without =
 -- ---- one container
 
 -- the monitor after it; dUNEQ is about label 00
-unfoldable pub stepOf : Monitor → Overhead → Expected → Monitor
-stepOf m c e =
+unfoldable pub monitorStep : Monitor → Overhead → Expected → Monitor
+monitorStep m c e =
     record {
       parity = keptOf (c .parity);
       label = labelOf (m .label) (c .c2) (e .label);
@@ -43,13 +43,13 @@ stepOf m c e =
 
 -- and what is told of the container: its violations by the parity before it, and the violations returned
 unfoldable pub seenOf : Monitor → Overhead → Expected → Seen
-seenOf m c e = record { monitor = stepOf m c e; violations = violationsOf (m .parity) (c .b3); returned = returnedOf (c .g1) }
+seenOf m c e = record { monitor = monitorStep m c e; violations = violationsOf (m .parity) (c .b3); returned = returnedOf (c .g1) }
 
 -- ---- ranges
 
 -- "Counts stop at the end of their range: .. message run .. 3; .. label and defect runs 5; message place 15; containers without a message 48."
-unfoldable pub inRange : Monitor → Bool
-inRange m =
+unfoldable pub monitorInRange : Monitor → Bool
+monitorInRange m =
     leb (m .label .run) 5
     && leb (m .uneq .with) 5
     && leb (m .uneq .without) 5

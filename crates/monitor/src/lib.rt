@@ -1,10 +1,10 @@
 // The container monitor: what is read of each container that ended. It sees four overhead bytes and the container's parity only, so it is the same for every size of container.
-// The definitions stand in specs/: Seeing (what is seen), Monitoring (the machine). The sink calls `see` and `step` for each container, and `blank(48)` in a unit with SSF; `report` takes the defects from here.
+// The definitions stand in specs/: Seeing (what is seen), Monitoring (the machine). The sink calls `see` and `step` for each container, and `blank(48)` in a unit with SSF; `unit_end` takes the defects from here.
 ghost use mathlib.Core.Path.{_≡_};
 ghost use Prim.Native.Nat.{_*_, _<_};
 ghost use lib.ListN.{length};
 ghost use Rattle.monitor.specs.Seeing.{seenIn};
-ghost use Rattle.monitor.specs.Monitoring.{blankOf, inRange, seenOf};
+ghost use Rattle.monitor.specs.Monitoring.{blankOf, monitorInRange, seenOf};
 
 // What is seen of a container: four of its overhead bytes, and the exclusive or of all its bytes.
 pub struct Overhead {
@@ -28,7 +28,7 @@ pub struct Monitor {
     pub label: overhead::Label,
     pub uneq: overhead::Defect,
     pub rdi: overhead::Defect,
-    pub trace: message::Trace,
+    pub trace: trace_monitor::Trace,
 }
 
 // What a container gives: the monitor after it, its violations, and those that the far end returned.
@@ -81,13 +81,13 @@ pub fn blank(without: u8) -> Monitor
         label: label,
         uneq: none,
         rdi: none,
-        trace: message::blank(without),
+        trace: trace_monitor::blank(without),
     }
 }
 
 // Whether each count is in its range.
 pub fn in_range(m: Monitor) -> bool
-    ensures { λ r. ⌜ r ≡ inRange m ⌝ }
+    ensures { λ r. ⌜ r ≡ monitorInRange m ⌝ }
 {
     (m.label.run <= 5)
         & (m.uneq.with <= 5)
@@ -119,7 +119,7 @@ pub fn step(m: Monitor, c: Overhead, e: Expected) -> Seen
         label: overhead::label_step(label, c.c2, e.label),
         uneq: overhead::defect_step(uneq, c.c2 == 0),
         rdi: overhead::defect_step(rdi, overhead::remote(c.g1)),
-        trace: message::trace_step(trace, c.j1, expected),
+        trace: trace_monitor::trace_step(trace, c.j1, expected),
     };
     Seen {
         monitor: after,

@@ -13,14 +13,14 @@ use Rattle.shape.specs.Shape.{offsetAfter}
 use Rattle.shape.specs.declared.Adjustment.{Adjustment}
 use Rattle.shape.specs.declared.Adjustment.the-variants as offset
 use Rattle.shape.proofs.Offsets.{after-low}
-use Rattle.reading.specs.Reading.{runAfter, restarts, adjustmentOf}
-use Rattle.reading.specs.declared.State.{State}
-use Rattle.reading.specs.declared.State.the-variants.{Normal, Alarm, Lost}
-use Rattle.reading.specs.declared.Taken.{Taken}
-use Rattle.reading.specs.declared.Taken.the-variants.{AlarmWord, NewData, Resync, Plain, Increment, Decrement, Nothing, Invalid}
-use Rattle.reading.specs.declared.Run.{Run}
-use Rattle.reading.proofs.Names.{Moved, Names, good-low, taken-names}
-use Rattle.pointer.specs.Machine.{fresh, rowsAfter, alarmWord, renewed, newData, invalid, stateAfter, isNormal, offsetOf, waitAfter, takenIn, pointerAfter, stepOf, placed, rowsIn, runIn, inRange}
+use Rattle.pointer_rules.specs.Rules.{runAfter, restarts, adjustmentOf}
+use Rattle.pointer_rules.specs.declared.State.{State}
+use Rattle.pointer_rules.specs.declared.State.the-variants.{Normal, Alarm, Lost}
+use Rattle.pointer_rules.specs.declared.Taken.{Taken}
+use Rattle.pointer_rules.specs.declared.Taken.the-variants.{AlarmWord, NewData, Resync, Plain, Increment, Decrement, Nothing, Invalid}
+use Rattle.pointer_rules.specs.declared.Run.{Run}
+use Rattle.pointer_rules.proofs.Names.{Moved, Names, good-low, taken-names}
+use Rattle.pointer.specs.Machine.{freshPointer, rowsAfter, alarmWord, renewed, newData, invalid, stateAfter, isNormal, offsetOf, waitAfter, takenIn, pointerAfter, pointerStep, placed, rowsIn, runIn, pointerInRange}
 use Rattle.pointer.specs.declared.Rows.{Rows}
 use Rattle.pointer.specs.declared.Pointer.{Pointer}
 
@@ -94,23 +94,23 @@ wait-le wait state (Decrement v) = omega arith
 wait-le wait state Nothing = omega arith
 wait-le wait state Invalid = omega arith
 
--- ---- inRange
+-- ---- pointerInRange
 
-in-placed : (top : ℕ) (s : Pointer) → inRange top s ≡ true → placed top (s .state) ≡ true
-unfolding inRange
+in-placed : (top : ℕ) (s : Pointer) → pointerInRange top s ≡ true → placed top (s .state) ≡ true
+unfolding pointerInRange
 in-placed top s h = search (and-left, h)
 
 -- "Its offset is a pointer value"
-pub offset-low : (top : ℕ) (s : Pointer) → inRange top s ≡ true → offsetOf (s .state) ≤ top
+pub offset-low : (top : ℕ) (s : Pointer) → pointerInRange top s ≡ true → offsetOf (s .state) ≤ top
 offset-low top s h = placed-low top (s .state) (in-placed top s h)
 
-pub fresh-in-range : (top : ℕ) → inRange top fresh ≡ true
-unfolding inRange fresh placed
+pub fresh-in-range : (top : ℕ) → pointerInRange top freshPointer ≡ true
+unfolding pointerInRange freshPointer placed
 fresh-in-range top = simp (le-leb 0 top (omega arith))
 
 -- A pointer's numbers stay in their ranges.
-pub step-in-range : (top : ℕ) (s : Pointer) (w : ℕ) → inRange top s ≡ true → inRange top (stepOf s top w .pointer) ≡ true
-unfolding inRange stepOf pointerAfter takenIn
+pub step-in-range : (top : ℕ) (s : Pointer) (w : ℕ) → pointerInRange top s ≡ true → pointerInRange top (pointerStep s top w .pointer) ≡ true
+unfolding pointerInRange pointerStep pointerAfter takenIn
 step-in-range top s w h =
     let t = takenIn s top w in
     let rows = rowsAfter (s .rows) t in
@@ -151,8 +151,8 @@ state-goes top state rows Invalid n r =
     by-test (λ (q : State). isNormal q ≡ true → Goes top offset.Nothing state q) (leb 8 (rows .invalids)) (λ _ e. absurd (false≢true e)) (λ _. stays top state)
 
 -- A unit that ends normal and did not restart began normal, and its offset moved by the adjustment, of any pointer.
-pub going : (top : ℕ) (s : Pointer) (w : ℕ) → restarts (stepOf s top w .taken) ≡ false → isNormal (stepOf s top w .pointer .state) ≡ true → Goes top (adjustmentOf (stepOf s top w .taken)) (s .state) (stepOf s top w .pointer .state)
-unfolding stepOf pointerAfter takenIn
+pub going : (top : ℕ) (s : Pointer) (w : ℕ) → restarts (pointerStep s top w .taken) ≡ false → isNormal (pointerStep s top w .pointer .state) ≡ true → Goes top (adjustmentOf (pointerStep s top w .taken)) (s .state) (pointerStep s top w .pointer .state)
+unfolding pointerStep pointerAfter takenIn
 going top s w =
     let t = takenIn s top w in
     state-goes top (s .state) (rowsAfter (s .rows) t) t (taken-names top (s .state) (s .run) (s .wait) w)

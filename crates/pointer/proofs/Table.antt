@@ -1,4 +1,4 @@
--- The rows P1 to P12 of 01, "Pointer words and units on both sides", as one statement; the "run only" line; and words in a row, from the fresh state and others.
+-- The rows P1 to P12 of 01, "Pointer words and units on both sides", as one statement; the "run only" line; and words in a row, from the freshPointer state and others.
 -- Assumes nothing.
 use mathlib.Core.Path.{_≡_, refl}
 use mathlib.Core.List.{List, [], _∷_, map}
@@ -10,17 +10,17 @@ use lib.ListN.{replicate}
 use Rattle.counts.specs.Counts.{more, runOn}
 use Rattle.word.specs.Word.{kindOf, ssOf, valueOf, ofKind, good, inverted}
 use Rattle.shape.specs.Shape.{upOf, downOf, offsetAfter}
-use Rattle.reading.specs.Reading.{noRun, runAfter, elsewhere, adjustment, inNormal, outside, byState, takenAs}
-use Rattle.reading.specs.declared.State.{State}
-use Rattle.reading.specs.declared.State.the-variants.{Normal, Alarm, Lost}
-use Rattle.reading.specs.declared.Taken.{Taken}
-use Rattle.reading.specs.declared.Taken.the-variants.{NewData, Resync, Plain, Increment, Decrement, Nothing, Invalid}
-use Rattle.pointer.specs.Machine.{noRows, fresh, rowsAfter, alarmWord, renewed, newData, invalid, stateAfter, isNormal, waitAfter, takenIn, pointerAfter, stepOf, after, takens}
+use Rattle.pointer_rules.specs.Rules.{noRun, runAfter, elsewhere, adjustment, inNormal, inAlarmOrLost, byState, takenAs}
+use Rattle.pointer_rules.specs.declared.State.{State}
+use Rattle.pointer_rules.specs.declared.State.the-variants.{Normal, Alarm, Lost}
+use Rattle.pointer_rules.specs.declared.Taken.{Taken}
+use Rattle.pointer_rules.specs.declared.Taken.the-variants.{NewData, Resync, Plain, Increment, Decrement, Nothing, Invalid}
+use Rattle.pointer.specs.Machine.{noRows, freshPointer, rowsAfter, alarmWord, renewed, newData, invalid, stateAfter, isNormal, waitAfter, takenIn, pointerAfter, pointerStep, afterWords, takens}
 use Rattle.pointer.specs.declared.Pointer.{Pointer}
 
 -- ---- the table
 
--- a row: the offset, the word, what it is taken as, and the offset after it
+-- a row: the offset, the word, what it is taken as, and the offset afterWords it
 pub record Row : Type 0 where
   pub offset : ℕ
   pub word : ℕ
@@ -57,8 +57,8 @@ pub record Outcome : Type 0 where
 
 -- what the machine makes of a row's offset and word, and what the row says
 unfoldable pub found : ℕ → Row → Outcome
-unfolding stepOf takenIn pointerAfter runAfter runOn elsewhere upOf downOf offsetAfter adjustment inNormal outside byState takenAs rowsAfter alarmWord renewed newData invalid stateAfter isNormal waitAfter kindOf ssOf valueOf ofKind good inverted ones onesIn
-found top r = let a = stepOf (before (Normal (r .offset))) top (r .word) in record { taken = a .taken; state = a .pointer .state }
+unfolding pointerStep takenIn pointerAfter runAfter runOn elsewhere upOf downOf offsetAfter adjustment inNormal inAlarmOrLost byState takenAs rowsAfter alarmWord renewed newData invalid stateAfter isNormal waitAfter kindOf ssOf valueOf ofKind good inverted ones onesIn
+found top r = let a = pointerStep (before (Normal (r .offset))) top (r .word) in record { taken = a .taken; state = a .pointer .state }
 
 pub said : Row → Outcome
 said r = record { taken = r .taken; state = Normal (r .leads) }
@@ -68,7 +68,7 @@ unfolding rows row before found said
 table = refl
 
 -- P6 says "run 1": its word is in range, and the first of its run
-pub p6-run : stepOf (before (Normal 782)) 782 0x6800 .pointer .run .count ≡ 1
+pub p6-run : pointerStep (before (Normal 782)) 782 0x6800 .pointer .run .count ≡ 1
 unfolding before found
 p6-run = refl
 
@@ -79,9 +79,9 @@ pub too-soon : takens (before (Normal 782)) 782 (0x69a4 ∷ 0x6800 ∷ 0x6800 �
 unfolding takens before found
 too-soon = refl
 
--- rule 3, from the fresh state; it does not start the wait, so that an adjustment may follow at once
-pub three-alike : takens fresh 782 (0x6800 ∷ 0x6800 ∷ 0x6800 ∷ 0x6aaa ∷ []) ≡ Nothing ∷ Nothing ∷ Resync 0 ∷ Increment 1 ∷ []
-unfolding fresh takens before found
+-- rule 3, from the freshPointer state; it does not start the wait, so that an adjustment may follow at once
+pub three-alike : takens freshPointer 782 (0x6800 ∷ 0x6800 ∷ 0x6800 ∷ 0x6aaa ∷ []) ≡ Nothing ∷ Nothing ∷ Resync 0 ∷ Increment 1 ∷ []
+unfolding freshPointer takens before found
 three-alike = refl
 
 -- "however else each was taken": two invalid words, three I and three D bits inverted, are in the run of the third
@@ -95,8 +95,8 @@ unfolding takens before found
 third-plain = refl
 
 -- rule 1: "Three in a row lead to alarm from any state", of any pointer, in range or not
-pub three-alarms : (top : ℕ) (s : Pointer) → after s top (0xffff ∷ 0xffff ∷ 0xffff ∷ []) .state ≡ Alarm
-unfolding after before found
+pub three-alarms : (top : ℕ) (s : Pointer) → afterWords s top (0xffff ∷ 0xffff ∷ 0xffff ∷ []) .state ≡ Alarm
+unfolding afterWords before found
 three-alarms top s = rw (le-leb 3 (more (more (more (s .rows .alarms) 3) 3) 3) (omega arith))
 
 -- ---- so many times the same word
@@ -137,11 +137,11 @@ pub record Ended : Type 0 where
   pub wait : ℕ
 
 pub ending : Repeated → Ended
-ending r = let s = after (before (r .from)) 782 (replicate (r .times) (r .word)) in record { state = s .state; wait = s .wait }
+ending r = let s = afterWords (before (r .from)) 782 (replicate (r .times) (r .word)) in record { state = s .state; wait = s .wait }
 
 pub led : Repeated → Ended
 led r = record { state = r .to; wait = r .waits }
 
 pub repeated : map ending repeats ≡ map led repeats
-unfolding repeats repeat before found after ending led
+unfolding repeats repeat before found afterWords ending led
 repeated = refl

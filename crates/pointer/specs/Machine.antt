@@ -1,26 +1,26 @@
--- The pointer from word to word: 01, "Reading one pointer word". How a word is taken is in the crate `reading`; here is what it leads to.
+-- The pointer from word to word: 01, "Reading one pointer word". How a word is taken is in the crate `pointer_rules`; here is what it leads to.
 -- `top` is the largest pointer value: 782 in AU-4, 764 in TU-3.
 use Prim.Native.Nat.{ℕ}
 use mathlib.Core.Bool.{Bool, true, false, cond, _&&_}
 use mathlib.Core.List.{List, [], _∷_}
 use lib.Dec.{leb}
 use Rattle.counts.specs.Counts.{more}
-use Rattle.reading.specs.Reading.{noRun, runAfter, takenAs}
-use Rattle.reading.specs.declared.State.{State}
-use Rattle.reading.specs.declared.State.the-variants.{Normal, Alarm, Lost}
-use Rattle.reading.specs.declared.Taken.{Taken}
-use Rattle.reading.specs.declared.Taken.the-variants.{AlarmWord, NewData, Resync, Plain, Increment, Decrement, Nothing, Invalid}
-use Rattle.reading.specs.declared.Run.{Run}
+use Rattle.pointer_rules.specs.Rules.{noRun, runAfter, takenAs}
+use Rattle.pointer_rules.specs.declared.State.{State}
+use Rattle.pointer_rules.specs.declared.State.the-variants.{Normal, Alarm, Lost}
+use Rattle.pointer_rules.specs.declared.Taken.{Taken}
+use Rattle.pointer_rules.specs.declared.Taken.the-variants.{AlarmWord, NewData, Resync, Plain, Increment, Decrement, Nothing, Invalid}
+use Rattle.pointer_rules.specs.declared.Run.{Run}
 use Rattle.pointer.specs.declared.Rows.{Rows}
 use Rattle.pointer.specs.declared.Pointer.{Pointer}
-use Rattle.pointer.specs.declared.After.{After}
+use Rattle.pointer.specs.declared.AfterWord.{AfterWord}
 
 abbrev pub noRows : Rows
 noRows = record { alarms = 0; news = 0; invalids = 0 }
 
 -- "it starts lost, the wait 3, all else 0 or none"
-unfoldable pub fresh : Pointer
-fresh = record { state = Lost; rows = noRows; run = noRun; wait = 3 }
+unfoldable pub freshPointer : Pointer
+freshPointer = record { state = Lost; rows = noRows; run = noRun; wait = 3 }
 
 -- ---- what a word leads to, by how it is taken
 
@@ -35,7 +35,7 @@ rowsAfter rows (Decrement v) = noRows
 rowsAfter rows Nothing = noRows
 rowsAfter rows Invalid = record { alarms = 0; news = 0; invalids = more (rows .invalids) 8 }
 
--- rule 1: "Three in a row lead to alarm from any state". Here and in the next, `row` is the row with this word in it.
+-- rule 1: "Three in a row lead to alarm from any state". Here and in the afterWord, `row` is the row with this word in it.
 unfoldable pub alarmWord : State → ℕ → State
 alarmWord state row = cond (leb 3 row) Alarm state
 
@@ -101,34 +101,34 @@ waitAfter wait state Invalid = more wait 3
 unfoldable pub takenIn : Pointer → ℕ → ℕ → Taken
 takenIn s top w = takenAs (s .state) (runAfter (s .run) top w .count) (s .wait) top w
 
--- s after a word taken as t; `run` is the run with this word in it
+-- s afterWords a word taken as t; `run` is the run with this word in it
 unfoldable pub pointerAfter : Pointer → Run → Taken → Pointer
 pointerAfter s run t =
     let rows = rowsAfter (s .rows) t in
     let state = stateAfter (s .state) rows t in
     record { state = state; rows = rows; run = run; wait = waitAfter (s .wait) state t }
 
--- THE STEP: how w is taken in s, and the pointer after it
-unfoldable pub stepOf : Pointer → ℕ → ℕ → After
-stepOf s top w =
+-- THE STEP: how w is taken in s, and the pointer afterWords it
+unfoldable pub pointerStep : Pointer → ℕ → ℕ → AfterWord
+pointerStep s top w =
     let t = takenIn s top w in
     record { taken = t; pointer = pointerAfter s (runAfter (s .run) top w) t }
 
--- ---- word after word
+-- ---- word afterWords word
 
--- the pointer after the word w
-abbrev pub next : Pointer → ℕ → ℕ → Pointer
-next s top w = stepOf s top w .pointer
+-- the pointer afterWords the word w
+abbrev pub afterWord : Pointer → ℕ → ℕ → Pointer
+afterWord s top w = pointerStep s top w .pointer
 
--- the pointer after the words ws
-unfoldable pub after : Pointer → ℕ → List ℕ → Pointer
-after s top [] = s
-after s top (w ∷ ws) = after (next s top w) top ws
+-- the pointer afterWords the words ws
+unfoldable pub afterWords : Pointer → ℕ → List ℕ → Pointer
+afterWords s top [] = s
+afterWords s top (w ∷ ws) = afterWords (afterWord s top w) top ws
 
 -- how each of the words ws is taken
 unfoldable pub takens : Pointer → ℕ → List ℕ → List Taken
 takens s top [] = []
-takens s top (w ∷ ws) = stepOf s top w .taken ∷ takens (next s top w) top ws
+takens s top (w ∷ ws) = pointerStep s top w .taken ∷ takens (afterWord s top w) top ws
 
 -- ---- ranges: "Counts stop at the end of their range: alarm words, alike words, .. wait 3; invalid and enabled words 8"
 
@@ -144,5 +144,5 @@ rowsIn rows = leb (rows .alarms) 3 && leb (rows .news) 8 && leb (rows .invalids)
 abbrev pub runIn : ℕ → Run → Bool
 runIn top run = leb (run .count) 3 && leb (run .value) top
 
-unfoldable pub inRange : ℕ → Pointer → Bool
-inRange top s = placed top (s .state) && rowsIn (s .rows) && runIn top (s .run) && leb (s .wait) 3
+unfoldable pub pointerInRange : ℕ → Pointer → Bool
+pointerInRange top s = placed top (s .state) && rowsIn (s .rows) && runIn top (s .run) && leb (s .wait) 3

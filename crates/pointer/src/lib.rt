@@ -1,12 +1,12 @@
-// The pointer from word to word: rows, state and wait after a word taken by the rules of the crate `reading`, and one step with it all.
+// The pointer from word to word: rows, state and wait after a word taken by the rules of the crate `pointer_rules`, and one step with it all.
 // The definitions stand in specs/Machine.antt, the laws in proofs/Ranges.antt and 01's table in proofs/Table.antt. The sink rests on it.
 // `top` is the largest pointer value, 782 in AU-4.
 ghost use mathlib.Core.Path.{_≡_};
 ghost use mathlib.Core.Bool.{cond};
-ghost use Rattle.pointer.specs.Machine.{noRows, fresh, rowsAfter, alarmWord, renewed, newData, invalid, stateAfter, isNormal, isAlarm, offsetOf, waitAfter, stepOf, placed, inRange};
-use reading::Run;
-use reading::State;
-use reading::Taken;
+ghost use Rattle.pointer.specs.Machine.{noRows, freshPointer, rowsAfter, alarmWord, renewed, newData, invalid, stateAfter, isNormal, isAlarm, offsetOf, waitAfter, pointerStep, placed, pointerInRange};
+use pointer_rules::Run;
+use pointer_rules::State;
+use pointer_rules::Taken;
 
 // How many of the last words, in a row, were taken as alarm words (as far as 3), as new data and as invalid (as far as 8).
 #[repr(C)]
@@ -25,7 +25,7 @@ pub struct Pointer {
 }
 
 // How a word was taken, and the pointer after it.
-pub struct After {
+pub struct AfterWord {
     pub taken: Taken,
     pub pointer: Pointer,
 }
@@ -42,7 +42,7 @@ fn no_rows() -> Rows
 
 // The pointer before any word: lost, and free to adjust.
 pub fn fresh() -> Pointer
-    ensures { λ r. ⌜ r ≡ fresh ⌝ }
+    ensures { λ r. ⌜ r ≡ freshPointer ⌝ }
 {
     let rows = no_rows();
     let run = Run { count: 0, value: 0 };
@@ -192,15 +192,15 @@ fn wait_after(wait: u8, state: State, t: Taken) -> u8
 }
 
 // One word: how it is taken, and the pointer after it.
-pub fn step(s: Pointer, top: u16, w: u16) -> After
-    ensures { λ r. ⌜ r ≡ stepOf s top w ⌝ }
+pub fn step(s: Pointer, top: u16, w: u16) -> AfterWord
+    ensures { λ r. ⌜ r ≡ pointerStep s top w ⌝ }
 {
     let run_before = s.run;
     let rows_before = s.rows;
     let state_before = s.state;
     let wait_before = s.wait;
-    let run = reading::run_after(run_before, top, w);
-    let taken = reading::take(state_before, run.count, wait_before, top, w);
+    let run = pointer_rules::run_after(run_before, top, w);
+    let taken = pointer_rules::take(state_before, run.count, wait_before, top, w);
     let rows = rows_after(rows_before, taken);
     let state = state_after(state_before, rows, taken);
     let wait = wait_after(wait_before, state, taken);
@@ -210,7 +210,7 @@ pub fn step(s: Pointer, top: u16, w: u16) -> After
         run,
         wait,
     };
-    After { taken, pointer }
+    AfterWord { taken, pointer }
 }
 
 // Whether a normal state's offset is a pointer value.
@@ -226,7 +226,7 @@ fn is_placed(top: u16, state: State) -> bool
 
 // Whether every number of the pointer is in its range.
 pub fn in_range(top: u16, s: Pointer) -> bool
-    ensures { λ r. ⌜ r ≡ inRange top s ⌝ }
+    ensures { λ r. ⌜ r ≡ pointerInRange top s ⌝ }
 {
     let state = s.state;
     is_placed(top, state)

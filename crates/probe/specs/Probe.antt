@@ -2,7 +2,7 @@
 use Prim.Native.Nat.{ℕ, _+_, _*_, _%_}
 use mathlib.Core.List.{List}
 use lib.ListN.{getD}
-use Rattle.records.specs.Refusals.{numberOf, placesOf}
+use Rattle.records.specs.Refusals.{catalogueNumber, cataloguePlaces}
 use Rattle.records.specs.declared.Refusal.{Refusal}
 use Rattle.catalogue.specs.declared.Checked.{Checked}
 use Rattle.catalogue.specs.declared.Checked.the-variants.{Good, Refused}
@@ -11,7 +11,7 @@ use Rattle.catalogue.specs.declared.Found.the-variants.{Entry, Not}
 
 -- a refusal: its number, then two places of 16 bits each, 0 where there is none
 unfoldable pub packed : Refusal → ℕ
-packed x = numberOf x * 4294967296 + getD (placesOf x) 0 0 % 65536 * 65536 + getD (placesOf x) 1 0 % 65536
+packed x = catalogueNumber x * 4294967296 + getD (cataloguePlaces x) 0 0 % 65536 * 65536 + getD (cataloguePlaces x) 1 0 % 65536
 
 -- a good catalogue: the number of its records
 unfoldable pub packedCheck : Checked → ℕ

@@ -5,7 +5,7 @@ ghost use Prim.Native.Nat.{_+_, _*_, _%_};
 ghost use mathlib.Core.Bool.{cond};
 ghost use lib.Dec.{eqb};
 ghost use lib.ListN.{length};
-ghost use Rattle.trace.specs.Check.{startByte};
+ghost use Rattle.trace_message.specs.Message.{startByte};
 ghost use Rattle.word.specs.Word.{plainWord, invertedWord, inverted};
 ghost use Rattle.catalogue.specs.Catalogue.{checkOf, lookupOf};
 ghost use Rattle.listing.specs.Listing.{Listed};
@@ -31,7 +31,7 @@ pub extern "C" fn probe_copy(src: &[u8], dst: &mut [u8]) -> bool
 pub extern "C" fn probe_start_byte(characters: &[u8]) -> u8
     ensures { λ r. ⌜ r ≡ startByte (now (characters .entry)) ⌝ }
 {
-    trace::start_byte(characters)
+    trace_message::start_byte(characters)
 }
 
 // The word of a value.

@@ -5,14 +5,14 @@ use mathlib.Core.List.{List}
 use Prim.Native.Nat.{ℕ}
 use Rattle.refusals.specs.Refusals.{answerNumber}
 use Rattle.shape.specs.Shape.{au4}
-use Rattle.reading.specs.declared.State as reading
+use Rattle.pointer_rules.specs.declared.State as reading
 use Rattle.pointer.specs.Machine.{offsetOf}
 use Rattle.monitor.specs.declared.Expected.{Expected}
-use Rattle.report.specs.declared.Flags.{Flags}
-use Rattle.sink.specs.Sink.{freshState, sink, Receives}
+use Rattle.unit_end.specs.declared.Flags.{Flags}
+use Rattle.sink.specs.Sink.{freshSink, sink, Receives}
 use Rattle.sink.specs.declared.State.{State}
 use Rattle.sink.specs.declared.Received.{Received}
-use Rattle.probe_sink.specs.Probe.{pointerState, kindOf, stateOf, plainOf, shownOf, probedOf, Shows}
+use Rattle.probe_sink.specs.Probe.{pointerState, stateKind, stateOf, plainOf, shownOf, probedOf, Shows}
 use Rattle.probe_sink.specs.declared.Plain.{Plain}
 use Rattle.probe_sink.specs.declared.Shown.{Shown}
 
@@ -21,7 +21,7 @@ pub state-is : (p : Plain) (x : reading.State) → x ≡ pointerState (p .kind) 
 unfolding stateOf
 state-is p x e = rw e refl
 
-pub plain-is : (s : State) (k o : ℕ) → k ≡ kindOf (s .pointer .state) → o ≡ offsetOf (s .pointer .state)
+pub plain-is : (s : State) (k o : ℕ) → k ≡ stateKind (s .pointer .state) → o ≡ offsetOf (s .pointer .state)
     → record {
       kind = k;
       offset = o;
@@ -50,7 +50,7 @@ pub shown-is : (x : Received) (n : ℕ) (p : Plain) → n ≡ answerNumber (x .a
 unfolding shownOf
 shown-is x n p e f = rw (e, f) refl
 
-pub fresh-is : (s : State) (p : Plain) → s ≡ freshState → p ≡ plainOf s → p ≡ plainOf freshState
+pub fresh-is : (s : State) (p : Plain) → s ≡ freshSink → p ≡ plainOf s → p ≡ plainOf freshSink
 fresh-is s p e f = f ∙ ap plainOf e
 
 pub shows : (p : Plain) (e : Expected) (flags : Flags) (unit held done held′ done′ : List ℕ) (s : State) (x : Received) (q : Shown)

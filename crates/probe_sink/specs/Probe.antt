@@ -8,16 +8,16 @@ use lib.ListN.{length}
 use Rattle.copier.specs.Put.{put}
 use Rattle.refusals.specs.Refusals.{answerNumber}
 use Rattle.shape.specs.Shape.{au4}
-use Rattle.reading.specs.declared.State as reading
-use Rattle.reading.specs.declared.State.the-variants.{Normal, Alarm, Lost}
+use Rattle.pointer_rules.specs.declared.State as reading
+use Rattle.pointer_rules.specs.declared.State.the-variants.{Normal, Alarm, Lost}
 use Rattle.pointer.specs.Machine.{isNormal, isAlarm, offsetOf}
 use Rattle.monitor.specs.declared.Expected.{Expected}
-use Rattle.report.specs.declared.Flags.{Flags}
+use Rattle.unit_end.specs.declared.Flags.{Flags}
 use Rattle.receiving.specs.declared.Ended.{Ended}
-use Rattle.view.specs.View.{containerOf}
+use Rattle.view.specs.View.{containerHanded}
 use Rattle.sink.specs.declared.State.{State}
 use Rattle.sink.specs.declared.Received.{Received}
-use Rattle.sink.specs.Sink.{Outcome, sink}
+use Rattle.sink.specs.Sink.{ReceivedOutcome, sink}
 use Rattle.probe_sink.specs.declared.Plain.{Plain}
 use Rattle.probe_sink.specs.declared.Shown.{Shown}
 
@@ -25,10 +25,10 @@ use Rattle.probe_sink.specs.declared.Shown.{Shown}
 unfoldable pub pointerState : ℕ → ℕ → reading.State
 pointerState kind offset = cond (eqb kind 0) Lost (cond (eqb kind 1) Alarm (Normal offset))
 
-unfoldable pub kindOf : reading.State → ℕ
-kindOf (Normal _) = 2
-kindOf Alarm = 1
-kindOf Lost = 0
+unfoldable pub stateKind : reading.State → ℕ
+stateKind (Normal _) = 2
+stateKind Alarm = 1
+stateKind Lost = 0
 
 unfoldable pub stateOf : Plain → State
 stateOf p =
@@ -42,7 +42,7 @@ stateOf p =
 unfoldable pub plainOf : State → Plain
 plainOf s =
     record {
-      kind = kindOf (s .pointer .state);
+      kind = stateKind (s .pointer .state);
       offset = offsetOf (s .pointer .state);
       rows = s .pointer .rows;
       run = s .pointer .run;
@@ -65,24 +65,24 @@ shownOf x =
     }
 
 -- all that a probe leaves: what it shows, and the bytes of both buffers
-pub record Probed : Type 0 where
+pub record SinkProbed : Type 0 where
   pub shown : Shown
   pub held : List ℕ
   pub done : List ℕ
 
-abbrev pub probedOf : Outcome → Probed
+abbrev pub probedOf : ReceivedOutcome → SinkProbed
 probedOf o = record { shown = shownOf (o .received); held = o .held; done = o .done }
 
 abbrev pub Shows : Plain → Expected → Flags → List ℕ → List ℕ → List ℕ → Shown → List ℕ → List ℕ → Type 0
-Shows p e flags unit held done r held′ done′ = _≡_ {A = Probed} (record { shown = r; held = held′; done = done′ }) (probedOf (sink au4 (stateOf p) e flags unit held done))
+Shows p e flags unit held done r held′ done′ = _≡_ {A = SinkProbed} (record { shown = r; held = held′; done = done′ }) (probedOf (sink au4 (stateOf p) e flags unit held done))
 
 -- a container written to the start of a lent buffer: how many bytes, and the buffer; 0 and the buffer as it was, where it is too short
-pub record Written : Type 0 where
+pub record ContainerWritten : Type 0 where
   pub number : ℕ
   pub bytes : List ℕ
 
-unfoldable pub writtenTo : List ℕ → List ℕ → Written
+unfoldable pub writtenTo : List ℕ → List ℕ → ContainerWritten
 writtenTo container out = cond (ltb (length out) (length container)) (record { number = 0; bytes = out }) (record { number = length container; bytes = put 0 container out })
 
-abbrev pub Hands : Ended → List ℕ → List ℕ → ℕ → List ℕ → ℕ → List ℕ → Type 0
-Hands e unit done k out r out′ = _≡_ {A = Written} (record { number = r; bytes = out′ }) (writtenTo (containerOf e (au4 .size) done unit k) out)
+abbrev pub WritesContainer : Ended → List ℕ → List ℕ → ℕ → List ℕ → ℕ → List ℕ → Type 0
+WritesContainer e unit done k out r out′ = _≡_ {A = ContainerWritten} (record { number = r; bytes = out′ }) (writtenTo (containerHanded e (au4 .size) done unit k) out)

@@ -2,18 +2,18 @@
 // by the definitions of specs/Probe.antt; all else is handed across as it is, and any state can be given. Nothing of the card rests on this crate.
 ghost use mathlib.Core.Path.{_≡_};
 ghost use Rattle.sink.specs.Sink as sink;
-ghost use Rattle.probe_sink.specs.Probe.{pointerState, kindOf, stateOf, plainOf, shownOf, Shows, Hands};
+ghost use Rattle.probe_sink.specs.Probe.{pointerState, stateKind, stateOf, plainOf, shownOf, Shows, WritesContainer};
 use monitor::Expected;
 use monitor::Monitor;
 use pointer::Pointer;
 use pointer::Rows;
-use reading::Run;
+use pointer_rules::Run;
 use receiving::Ended;
-use report::Actions;
-use report::Causes;
-use report::Defects;
-use report::Flags;
 use sink::Received;
+use unit_end::Actions;
+use unit_end::Causes;
+use unit_end::Defects;
+use unit_end::Flags;
 
 // A sink's state: the kind is 0 for lost, 1 for alarm, 2 for normal; the offset counts where it is normal.
 #[repr(C)]
@@ -40,25 +40,25 @@ pub struct Shown {
     pub settled: bool,
 }
 
-fn pointer_state(kind: u8, offset: u16) -> reading::State
+fn pointer_state(kind: u8, offset: u16) -> pointer_rules::State
     ensures { λ r. ⌜ r ≡ pointerState kind offset ⌝ }
 {
     if kind == 0 {
-        return reading::State::Lost;
+        return pointer_rules::State::Lost;
     }
     if kind == 1 {
-        return reading::State::Alarm;
+        return pointer_rules::State::Alarm;
     }
-    reading::State::Normal(offset)
+    pointer_rules::State::Normal(offset)
 }
 
-fn kind(state: reading::State) -> u8
-    ensures { λ r. ⌜ r ≡ kindOf state ⌝ }
+fn kind(state: pointer_rules::State) -> u8
+    ensures { λ r. ⌜ r ≡ stateKind state ⌝ }
 {
     match state {
-        reading::State::Normal(_) => 2,
-        reading::State::Alarm => 1,
-        reading::State::Lost => 0,
+        pointer_rules::State::Normal(_) => 2,
+        pointer_rules::State::Alarm => 1,
+        pointer_rules::State::Lost => 0,
     }
 }
 
@@ -125,7 +125,7 @@ fn show(x: Received) -> Shown
 // The state of a sink that has seen nothing.
 #[no_mangle]
 pub extern "C" fn probe_fresh_sink() -> Plain
-    ensures { λ r. ⌜ r ≡ plainOf sink.freshState ⌝ }
+    ensures { λ r. ⌜ r ≡ plainOf sink.freshSink ⌝ }
 {
     plain_of(sink::fresh())
 }
@@ -156,9 +156,9 @@ pub extern "C" fn probe_handed<'a>(
     k: usize,
     out: &mut [u8],
 ) -> usize
-    ensures { λ r. ⌜ Hands ended (now (unit .entry)) (now (done .entry)) k (now (out .entry)) r (now (out .exit)) ⌝ }
+    ensures { λ r. ⌜ WritesContainer ended (now (unit .entry)) (now (done .entry)) k (now (out .entry)) r (now (out .exit)) ⌝ }
 {
-    let shape = shape::au4();
+    let shape = shape::au4_shape();
     let container = view::container(ended, shape.size, done, unit, k);
     if out.len() < container.len() {
         return 0;

@@ -15,7 +15,7 @@ use Rattle.container_source.specs.declared.Sent.{Sent}
 use Rattle.unit_source.specs.Source as units
 use Rattle.unit_source.specs.declared.State as between-units
 use Rattle.unit_source.specs.declared.Made.{Made}
-use Rattle.probe_sources.specs.Probe.{packedSource, packedSent, packedUnit, packedMade, adjustmentOf, Probes, probedSent, probedMade, probedHanded}
+use Rattle.probe_sources.specs.Probe.{packedSource, packedSent, packedUnit, packedMade, adjustmentBy, Probes, probedSent, probedMade, probedHanded}
 
 pub source-packed : (s t : between-containers.State) (n : ℕ) → s ≡ t → n ≡ packedSource s → n ≡ packedSource t
 source-packed s t n e p = p ∙ ap packedSource e
@@ -37,8 +37,8 @@ pub container-probed : (s : Shape) (state : between-containers.State) (g : Given
 container-probed s state g trace payload before after m n e p = rw p (ap probedSent (e .outcome-is))
 
 pub unit-probed : (s : Shape) (state : between-units.State) (asked : ℕ) (a : Adjustment) (current next before after : List ℕ) (m : Made) (n : ℕ)
-    → a ≡ adjustmentOf asked → units.Makes s state a current next before m after → n ≡ packedMade m
-    → Probes n after (probedMade (units.unitSource s state (adjustmentOf asked) current next before))
+    → a ≡ adjustmentBy asked → units.Makes s state a current next before m after → n ≡ packedMade m
+    → Probes n after (probedMade (units.unitSource s state (adjustmentBy asked) current next before))
 unit-probed s state asked a current next before after m n h e p = rw (← h, p) (ap probedMade (e .outcome-is))
 
 pub payload-probed : (s : Shape) (container : List ℕ) (ais : Bool) (before after : List ℕ) (a : Answer) (n : ℕ)

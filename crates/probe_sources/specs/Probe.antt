@@ -38,8 +38,8 @@ unfoldable pub packedMade : Made → ℕ
 packedMade x = answerNumber (x .answer) * 4294967296 + x .ended * 16777216 + packedUnit (x .state)
 
 -- what it is asked
-unfoldable pub adjustmentOf : ℕ → Adjustment
-adjustmentOf asked = cond (eqb asked 0) ask.Nothing (cond (eqb asked 1) ask.Increment ask.Decrement)
+unfoldable pub adjustmentBy : ℕ → Adjustment
+adjustmentBy asked = cond (eqb asked 0) ask.Nothing (cond (eqb asked 1) ask.Increment ask.Decrement)
 
 -- all that a probe leaves: its number, and the bytes of the buffer that was lent
 pub record Probed : Type 0 where
@@ -49,10 +49,10 @@ pub record Probed : Type 0 where
 abbrev pub Probes : ℕ → List ℕ → Probed → Type 0
 Probes n bytes o = _≡_ {A = Probed} (record { number = n; bytes = bytes }) o
 
-abbrev pub probedSent : containers.Outcome → Probed
+abbrev pub probedSent : containers.SentOutcome → Probed
 probedSent o = record { number = packedSent (o .sent); bytes = o .container }
 
-abbrev pub probedMade : units.Outcome → Probed
+abbrev pub probedMade : units.MadeOutcome → Probed
 probedMade o = record { number = packedMade (o .made); bytes = o .unit }
 
 abbrev pub probedHanded : Handed → Probed

@@ -8,7 +8,7 @@ ghost use Rattle.container_source.specs.Source as containers;
 ghost use Rattle.container_source.specs.Source.{containerSource};
 ghost use Rattle.unit_source.specs.Source as units;
 ghost use Rattle.unit_source.specs.Source.{unitSource};
-ghost use Rattle.probe_sources.specs.Probe.{packedSource, packedSent, packedUnit, packedMade, adjustmentOf, givenOf, Probes, probedSent, probedMade, probedHanded};
+ghost use Rattle.probe_sources.specs.Probe.{packedSource, packedSent, packedUnit, packedMade, adjustmentBy, givenOf, Probes, probedSent, probedMade, probedHanded};
 use container_source::Given;
 use container_source::Sent;
 use container_source::Unexamined;
@@ -32,7 +32,7 @@ fn pack_sent(x: Sent) -> u32
 // The state of a container source that has sent nothing.
 #[no_mangle]
 pub extern "C" fn probe_fresh_container() -> u32
-    ensures { λ r. ⌜ r ≡ packedSource containers.freshState ⌝ }
+    ensures { λ r. ⌜ r ≡ packedSource containers.freshContainerSource ⌝ }
 {
     pack_source(container_source::fresh())
 }
@@ -85,13 +85,13 @@ fn pack_made(x: Made) -> u64
 // The state of a unit source that has sent nothing.
 #[no_mangle]
 pub extern "C" fn probe_fresh_unit() -> u64
-    ensures { λ r. ⌜ r ≡ packedUnit units.freshState ⌝ }
+    ensures { λ r. ⌜ r ≡ packedUnit units.freshUnitSource ⌝ }
 {
     pack_unit(unit_source::fresh())
 }
 
 fn adjustment(asked: u8) -> Adjustment
-    ensures { λ r. ⌜ r ≡ adjustmentOf asked ⌝ }
+    ensures { λ r. ⌜ r ≡ adjustmentBy asked ⌝ }
 {
     if asked == 0 {
         return Adjustment::Nothing;
@@ -112,7 +112,7 @@ pub extern "C" fn probe_unit(
     wait: u8,
     asked: u8,
 ) -> u64
-    ensures { λ r. ⌜ Probes r (now (unit .exit)) (probedMade (unitSource au4 (record { offset = offset; wait = wait }) (adjustmentOf asked) (now (current .entry)) (now (next .entry)) (now (unit .entry)))) ⌝ }
+    ensures { λ r. ⌜ Probes r (now (unit .exit)) (probedMade (unitSource au4 (record { offset = offset; wait = wait }) (adjustmentBy asked) (now (current .entry)) (now (next .entry)) (now (unit .entry)))) ⌝ }
 {
     let s = unit_source::State { offset, wait };
     pack_made(unit_source::unit_source(s, adjustment(asked), current, next, unit))

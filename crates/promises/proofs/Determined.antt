@@ -14,14 +14,14 @@ use Rattle.catalogue.specs.declared.Checked.{Checked}
 use Rattle.catalogue.specs.declared.Looked.{Looked}
 use Rattle.parity.proofs.parity.Kinds as parity
 use Rattle.parity.proofs.parity.Reads as parity-promise
-use Rattle.trace.proofs.start_byte.Kinds as trace-start-byte
-use Rattle.trace.proofs.start_byte.Reads as trace-start-byte-promise
-use Rattle.trace.proofs.good_message.Kinds as trace-good-message
-use Rattle.trace.proofs.good_message.Reads as trace-good-message-promise
-use Rattle.trace.proofs.trace_check.Kinds as trace-check
-use Rattle.trace.proofs.trace_check.Reads as trace-check-promise
-use Rattle.trace.proofs.same.Kinds as trace-same
-use Rattle.trace.proofs.same.Reads as trace-same-promise
+use Rattle.trace_message.proofs.start_byte.Kinds as trace-message-start-byte
+use Rattle.trace_message.proofs.start_byte.Reads as trace-message-start-byte-promise
+use Rattle.trace_message.proofs.good_message.Kinds as trace-message-good-message
+use Rattle.trace_message.proofs.good_message.Reads as trace-message-good-message-promise
+use Rattle.trace_message.proofs.trace_check.Kinds as trace-message-trace-check
+use Rattle.trace_message.proofs.trace_check.Reads as trace-message-trace-check-promise
+use Rattle.trace_message.proofs.same.Kinds as trace-message-same
+use Rattle.trace_message.proofs.same.Reads as trace-message-same-promise
 use Rattle.settings.proofs.label_refused.Kinds as settings-label-refused
 use Rattle.settings.proofs.label_refused.Reads as settings-label-refused-promise
 use Rattle.settings.proofs.trace_refused.Kinds as settings-trace-refused
@@ -117,19 +117,19 @@ Determines n ps r Post f =
 pub parity-determined : Determines {O = ℕ} 1 parity.ps parity.r parity-promise.Post (λ κs r e. r)
 parity-determined κs a x y s t p q = p ∙ sym q
 
--- ---- trace
+-- ---- trace_message
 
-pub trace-start-byte-determined : Determines {O = ℕ} 1 trace-start-byte.ps trace-start-byte.r trace-start-byte-promise.Post (λ κs r e. r)
-trace-start-byte-determined κs a x y s t p q = p ∙ sym q
+pub trace-message-start-byte-determined : Determines {O = ℕ} 1 trace-message-start-byte.ps trace-message-start-byte.r trace-message-start-byte-promise.Post (λ κs r e. r)
+trace-message-start-byte-determined κs a x y s t p q = p ∙ sym q
 
-pub trace-good-message-determined : Determines {O = Bool} 1 trace-good-message.ps trace-good-message.r trace-good-message-promise.Post (λ κs r e. r)
-trace-good-message-determined κs a x y s t p q = p ∙ sym q
+pub trace-message-good-message-determined : Determines {O = Bool} 1 trace-message-good-message.ps trace-message-good-message.r trace-message-good-message-promise.Post (λ κs r e. r)
+trace-message-good-message-determined κs a x y s t p q = p ∙ sym q
 
-pub trace-check-determined : Determines {O = Bool} 1 trace-check.ps trace-check.r trace-check-promise.Post (λ κs r e. r)
-trace-check-determined κs a x y s t p q = p ∙ sym q
+pub trace-message-trace-check-determined : Determines {O = Bool} 1 trace-message-trace-check.ps trace-message-trace-check.r trace-message-trace-check-promise.Post (λ κs r e. r)
+trace-message-trace-check-determined κs a x y s t p q = p ∙ sym q
 
-pub trace-same-determined : Determines {O = Bool} 2 trace-same.ps trace-same.r trace-same-promise.Post (λ κs r e. r)
-trace-same-determined κs a x y s t p q = p ∙ sym q
+pub trace-message-same-determined : Determines {O = Bool} 2 trace-message-same.ps trace-message-same.r trace-message-same-promise.Post (λ κs r e. r)
+trace-message-same-determined κs a x y s t p q = p ∙ sym q
 
 -- ---- settings
 

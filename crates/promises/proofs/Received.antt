@@ -6,43 +6,43 @@ use mathlib.Core.List.{List}
 use Prim.Native.Nat.{ℕ}
 use denote.Ref.{now}
 use Rattle.shape.specs.declared.Adjustment.{Adjustment}
-use Rattle.reading.specs.declared.Run.{Run}
-use Rattle.reading.specs.declared.Taken.{Taken}
+use Rattle.pointer_rules.specs.declared.Run.{Run}
+use Rattle.pointer_rules.specs.declared.Taken.{Taken}
 use Rattle.pointer.specs.declared.Pointer.{Pointer}
-use Rattle.pointer.specs.declared.After.{After}
+use Rattle.pointer.specs.declared.AfterWord.{AfterWord}
 use Rattle.cut.specs.declared.Cut.{Cut}
 use Rattle.overhead.specs.declared.Label.{Label}
 use Rattle.overhead.specs.declared.Defect.{Defect}
-use Rattle.message.specs.declared.Trace.{Trace}
+use Rattle.trace_monitor.specs.declared.Trace.{Trace}
 use Rattle.monitor.specs.declared.Overhead.{Overhead}
 use Rattle.monitor.specs.declared.Monitor.{Monitor}
 use Rattle.monitor.specs.declared.Seen.{Seen}
-use Rattle.report.specs.declared.Flags.{Flags}
-use Rattle.report.specs.declared.Defects.{Defects}
-use Rattle.report.specs.declared.Actions.{Actions}
-use Rattle.report.specs.declared.Causes.{Causes}
-use Rattle.receiving.specs.Receiving.{Leaving}
+use Rattle.unit_end.specs.declared.Flags.{Flags}
+use Rattle.unit_end.specs.declared.Defects.{Defects}
+use Rattle.unit_end.specs.declared.Actions.{Actions}
+use Rattle.unit_end.specs.declared.Causes.{Causes}
+use Rattle.receiving.specs.Receiving.{UnitOutcome}
 use Rattle.receiving.specs.declared.Ended.{Ended}
-use Rattle.receiving.specs.declared.Left.{Left}
+use Rattle.receiving.specs.declared.AfterUnit.{AfterUnit}
 use Rattle.view.specs.View.{Views}
 use Rattle.view.proofs.Parts.{one-view}
-use Rattle.sink.specs.Sink.{Outcome}
+use Rattle.sink.specs.Sink.{ReceivedOutcome}
 use Rattle.sink.specs.declared.State.{State}
-use Rattle.probe_sink.specs.Probe.{Probed, Written}
+use Rattle.probe_sink.specs.Probe.{SinkProbed, ContainerWritten}
 use Rattle.probe_sink.specs.declared.Plain.{Plain}
 use Rattle.promises.proofs.Determined.{Determines}
 use Rattle.counts.proofs.one_more.Kinds as counts-one-more
 use Rattle.counts.proofs.one_more.Reads as counts-one-more-promise
 use Rattle.counts.proofs.run_on.Kinds as counts-run-on
 use Rattle.counts.proofs.run_on.Reads as counts-run-on-promise
-use Rattle.reading.proofs.run_after.Kinds as reading-run-after
-use Rattle.reading.proofs.run_after.Reads as reading-run-after-promise
-use Rattle.reading.proofs.take.Kinds as reading-take
-use Rattle.reading.proofs.take.Reads as reading-take-promise
-use Rattle.reading.proofs.restarts.Kinds as reading-restarts
-use Rattle.reading.proofs.restarts.Reads as reading-restarts-promise
-use Rattle.reading.proofs.adjustment_of.Kinds as reading-adjustment-of
-use Rattle.reading.proofs.adjustment_of.Reads as reading-adjustment-of-promise
+use Rattle.pointer_rules.proofs.run_after.Kinds as pointer-rules-run-after
+use Rattle.pointer_rules.proofs.run_after.Reads as pointer-rules-run-after-promise
+use Rattle.pointer_rules.proofs.take.Kinds as pointer-rules-take
+use Rattle.pointer_rules.proofs.take.Reads as pointer-rules-take-promise
+use Rattle.pointer_rules.proofs.is_restart.Kinds as pointer-rules-is-restart
+use Rattle.pointer_rules.proofs.is_restart.Reads as pointer-rules-is-restart-promise
+use Rattle.pointer_rules.proofs.adjustment_of.Kinds as pointer-rules-adjustment-of
+use Rattle.pointer_rules.proofs.adjustment_of.Reads as pointer-rules-adjustment-of-promise
 use Rattle.pointer.proofs.fresh.Kinds as pointer-fresh
 use Rattle.pointer.proofs.fresh.Reads as pointer-fresh-promise
 use Rattle.pointer.proofs.step.Kinds as pointer-step
@@ -59,8 +59,8 @@ use Rattle.cut.proofs.cut_unit.Kinds as cut-unit
 use Rattle.cut.proofs.cut_unit.Reads as cut-unit-promise
 use Rattle.overhead.proofs.violations.Kinds as overhead-violations
 use Rattle.overhead.proofs.violations.Reads as overhead-violations-promise
-use Rattle.overhead.proofs.fits.Kinds as overhead-fits
-use Rattle.overhead.proofs.fits.Reads as overhead-fits-promise
+use Rattle.overhead.proofs.label_fits.Kinds as overhead-label-fits
+use Rattle.overhead.proofs.label_fits.Reads as overhead-label-fits-promise
 use Rattle.overhead.proofs.label_step.Kinds as overhead-label-step
 use Rattle.overhead.proofs.label_step.Reads as overhead-label-step-promise
 use Rattle.overhead.proofs.defect_step.Kinds as overhead-defect-step
@@ -69,10 +69,10 @@ use Rattle.overhead.proofs.remote.Kinds as overhead-remote
 use Rattle.overhead.proofs.remote.Reads as overhead-remote-promise
 use Rattle.overhead.proofs.returned.Kinds as overhead-returned
 use Rattle.overhead.proofs.returned.Reads as overhead-returned-promise
-use Rattle.message.proofs.trace_step.Kinds as message-trace-step
-use Rattle.message.proofs.trace_step.Reads as message-trace-step-promise
-use Rattle.message.proofs.blank.Kinds as message-blank
-use Rattle.message.proofs.blank.Reads as message-blank-promise
+use Rattle.trace_monitor.proofs.trace_step.Kinds as trace-monitor-trace-step
+use Rattle.trace_monitor.proofs.trace_step.Reads as trace-monitor-trace-step-promise
+use Rattle.trace_monitor.proofs.blank.Kinds as trace-monitor-blank
+use Rattle.trace_monitor.proofs.blank.Reads as trace-monitor-blank-promise
 use Rattle.monitor.proofs.see.Kinds as monitor-see
 use Rattle.monitor.proofs.see.Reads as monitor-see-promise
 use Rattle.monitor.proofs.blank.Kinds as monitor-blank
@@ -81,20 +81,20 @@ use Rattle.monitor.proofs.in_range.Kinds as monitor-in-range
 use Rattle.monitor.proofs.in_range.Reads as monitor-in-range-promise
 use Rattle.monitor.proofs.step.Kinds as monitor-step
 use Rattle.monitor.proofs.step.Reads as monitor-step-promise
-use Rattle.report.proofs.flags_of.Kinds as report-flags-of
-use Rattle.report.proofs.flags_of.Reads as report-flags-of-promise
-use Rattle.report.proofs.defects_of.Kinds as report-defects-of
-use Rattle.report.proofs.defects_of.Reads as report-defects-of-promise
-use Rattle.report.proofs.actions_of.Kinds as report-actions-of
-use Rattle.report.proofs.actions_of.Reads as report-actions-of-promise
-use Rattle.report.proofs.causes_of.Kinds as report-causes-of
-use Rattle.report.proofs.causes_of.Reads as report-causes-of-promise
-use Rattle.report.proofs.settled.Kinds as report-settled
-use Rattle.report.proofs.settled.Reads as report-settled-promise
-use Rattle.report.proofs.total_after.Kinds as report-total-after
-use Rattle.report.proofs.total_after.Reads as report-total-after-promise
-use Rattle.receiving.proofs.silence.Kinds as receiving-silence
-use Rattle.receiving.proofs.silence.Reads as receiving-silence-promise
+use Rattle.unit_end.proofs.flags_of.Kinds as unit-end-flags-of
+use Rattle.unit_end.proofs.flags_of.Reads as unit-end-flags-of-promise
+use Rattle.unit_end.proofs.defects_of.Kinds as unit-end-defects-of
+use Rattle.unit_end.proofs.defects_of.Reads as unit-end-defects-of-promise
+use Rattle.unit_end.proofs.actions_of.Kinds as unit-end-actions-of
+use Rattle.unit_end.proofs.actions_of.Reads as unit-end-actions-of-promise
+use Rattle.unit_end.proofs.causes_of.Kinds as unit-end-causes-of
+use Rattle.unit_end.proofs.causes_of.Reads as unit-end-causes-of-promise
+use Rattle.unit_end.proofs.settled.Kinds as unit-end-settled
+use Rattle.unit_end.proofs.settled.Reads as unit-end-settled-promise
+use Rattle.unit_end.proofs.total_after.Kinds as unit-end-total-after
+use Rattle.unit_end.proofs.total_after.Reads as unit-end-total-after-promise
+use Rattle.receiving.proofs.silent.Kinds as receiving-silent
+use Rattle.receiving.proofs.silent.Reads as receiving-silent-promise
 use Rattle.receiving.proofs.receive.Kinds as receiving-receive
 use Rattle.receiving.proofs.receive.Reads as receiving-receive-promise
 use Rattle.view.proofs.container.Kinds as view-container
@@ -118,26 +118,26 @@ counts-one-more-determined κs a x y s t p q = p ∙ sym q
 pub counts-run-on-determined : Determines {O = ℕ} 0 counts-run-on.ps counts-run-on.r counts-run-on-promise.Post (λ κs r e. r)
 counts-run-on-determined κs a x y s t p q = p ∙ sym q
 
--- ---- reading
+-- ---- pointer_rules
 
-pub reading-run-after-determined : Determines {O = Run} 0 reading-run-after.ps reading-run-after.r reading-run-after-promise.Post (λ κs r e. r)
-reading-run-after-determined κs a x y s t p q = p ∙ sym q
+pub pointer-rules-run-after-determined : Determines {O = Run} 0 pointer-rules-run-after.ps pointer-rules-run-after.r pointer-rules-run-after-promise.Post (λ κs r e. r)
+pointer-rules-run-after-determined κs a x y s t p q = p ∙ sym q
 
-pub reading-take-determined : Determines {O = Taken} 0 reading-take.ps reading-take.r reading-take-promise.Post (λ κs r e. r)
-reading-take-determined κs a x y s t p q = p ∙ sym q
+pub pointer-rules-take-determined : Determines {O = Taken} 0 pointer-rules-take.ps pointer-rules-take.r pointer-rules-take-promise.Post (λ κs r e. r)
+pointer-rules-take-determined κs a x y s t p q = p ∙ sym q
 
-pub reading-restarts-determined : Determines {O = Bool} 0 reading-restarts.ps reading-restarts.r reading-restarts-promise.Post (λ κs r e. r)
-reading-restarts-determined κs a x y s t p q = p ∙ sym q
+pub pointer-rules-is-restart-determined : Determines {O = Bool} 0 pointer-rules-is-restart.ps pointer-rules-is-restart.r pointer-rules-is-restart-promise.Post (λ κs r e. r)
+pointer-rules-is-restart-determined κs a x y s t p q = p ∙ sym q
 
-pub reading-adjustment-of-determined : Determines {O = Adjustment} 0 reading-adjustment-of.ps reading-adjustment-of.r reading-adjustment-of-promise.Post (λ κs r e. r)
-reading-adjustment-of-determined κs a x y s t p q = p ∙ sym q
+pub pointer-rules-adjustment-of-determined : Determines {O = Adjustment} 0 pointer-rules-adjustment-of.ps pointer-rules-adjustment-of.r pointer-rules-adjustment-of-promise.Post (λ κs r e. r)
+pointer-rules-adjustment-of-determined κs a x y s t p q = p ∙ sym q
 
 -- ---- pointer
 
 pub pointer-fresh-determined : Determines {O = Pointer} 0 pointer-fresh.ps pointer-fresh.r pointer-fresh-promise.Post (λ κs r e. r)
 pointer-fresh-determined κs a x y s t p q = p ∙ sym q
 
-pub pointer-step-determined : Determines {O = After} 0 pointer-step.ps pointer-step.r pointer-step-promise.Post (λ κs r e. r)
+pub pointer-step-determined : Determines {O = AfterWord} 0 pointer-step.ps pointer-step.r pointer-step-promise.Post (λ κs r e. r)
 pointer-step-determined κs a x y s t p q = p ∙ sym q
 
 pub pointer-in-range-determined : Determines {O = Bool} 0 pointer-in-range.ps pointer-in-range.r pointer-in-range-promise.Post (λ κs r e. r)
@@ -171,8 +171,8 @@ cut-unit-determined κs a x y s t p q = unit-cut-same (p .cut-is ∙ sym (q .cut
 pub overhead-violations-determined : Determines {O = ℕ} 0 overhead-violations.ps overhead-violations.r overhead-violations-promise.Post (λ κs r e. r)
 overhead-violations-determined κs a x y s t p q = p ∙ sym q
 
-pub overhead-fits-determined : Determines {O = Bool} 0 overhead-fits.ps overhead-fits.r overhead-fits-promise.Post (λ κs r e. r)
-overhead-fits-determined κs a x y s t p q = p ∙ sym q
+pub overhead-label-fits-determined : Determines {O = Bool} 0 overhead-label-fits.ps overhead-label-fits.r overhead-label-fits-promise.Post (λ κs r e. r)
+overhead-label-fits-determined κs a x y s t p q = p ∙ sym q
 
 pub overhead-label-step-determined : Determines {O = Label} 0 overhead-label-step.ps overhead-label-step.r overhead-label-step-promise.Post (λ κs r e. r)
 overhead-label-step-determined κs a x y s t p q = p ∙ sym q
@@ -186,13 +186,13 @@ overhead-remote-determined κs a x y s t p q = p ∙ sym q
 pub overhead-returned-determined : Determines {O = ℕ} 0 overhead-returned.ps overhead-returned.r overhead-returned-promise.Post (λ κs r e. r)
 overhead-returned-determined κs a x y s t p q = p ∙ sym q
 
--- ---- message
+-- ---- trace_monitor
 
-pub message-trace-step-determined : Determines {O = Trace} 0 message-trace-step.ps message-trace-step.r message-trace-step-promise.Post (λ κs r e. r)
-message-trace-step-determined κs a x y s t p q = p ∙ sym q
+pub trace-monitor-trace-step-determined : Determines {O = Trace} 0 trace-monitor-trace-step.ps trace-monitor-trace-step.r trace-monitor-trace-step-promise.Post (λ κs r e. r)
+trace-monitor-trace-step-determined κs a x y s t p q = p ∙ sym q
 
-pub message-blank-determined : Determines {O = Trace} 0 message-blank.ps message-blank.r message-blank-promise.Post (λ κs r e. r)
-message-blank-determined κs a x y s t p q = p ∙ sym q
+pub trace-monitor-blank-determined : Determines {O = Trace} 0 trace-monitor-blank.ps trace-monitor-blank.r trace-monitor-blank-promise.Post (λ κs r e. r)
+trace-monitor-blank-determined κs a x y s t p q = p ∙ sym q
 
 -- ---- monitor
 
@@ -208,32 +208,32 @@ monitor-in-range-determined κs a x y s t p q = p ∙ sym q
 pub monitor-step-determined : Determines {O = Seen} 0 monitor-step.ps monitor-step.r monitor-step-promise.Post (λ κs r e. r)
 monitor-step-determined κs a x y s t p q = p ∙ sym q
 
--- ---- report
+-- ---- unit_end
 
-pub report-flags-of-determined : Determines {O = Flags} 0 report-flags-of.ps report-flags-of.r report-flags-of-promise.Post (λ κs r e. r)
-report-flags-of-determined κs a x y s t p q = p ∙ sym q
+pub unit-end-flags-of-determined : Determines {O = Flags} 0 unit-end-flags-of.ps unit-end-flags-of.r unit-end-flags-of-promise.Post (λ κs r e. r)
+unit-end-flags-of-determined κs a x y s t p q = p ∙ sym q
 
-pub report-defects-of-determined : Determines {O = Defects} 0 report-defects-of.ps report-defects-of.r report-defects-of-promise.Post (λ κs r e. r)
-report-defects-of-determined κs a x y s t p q = p ∙ sym q
+pub unit-end-defects-of-determined : Determines {O = Defects} 0 unit-end-defects-of.ps unit-end-defects-of.r unit-end-defects-of-promise.Post (λ κs r e. r)
+unit-end-defects-of-determined κs a x y s t p q = p ∙ sym q
 
-pub report-actions-of-determined : Determines {O = Actions} 0 report-actions-of.ps report-actions-of.r report-actions-of-promise.Post (λ κs r e. r)
-report-actions-of-determined κs a x y s t p q = p ∙ sym q
+pub unit-end-actions-of-determined : Determines {O = Actions} 0 unit-end-actions-of.ps unit-end-actions-of.r unit-end-actions-of-promise.Post (λ κs r e. r)
+unit-end-actions-of-determined κs a x y s t p q = p ∙ sym q
 
-pub report-causes-of-determined : Determines {O = Causes} 0 report-causes-of.ps report-causes-of.r report-causes-of-promise.Post (λ κs r e. r)
-report-causes-of-determined κs a x y s t p q = p ∙ sym q
+pub unit-end-causes-of-determined : Determines {O = Causes} 0 unit-end-causes-of.ps unit-end-causes-of.r unit-end-causes-of-promise.Post (λ κs r e. r)
+unit-end-causes-of-determined κs a x y s t p q = p ∙ sym q
 
-pub report-settled-determined : Determines {O = Bool} 0 report-settled.ps report-settled.r report-settled-promise.Post (λ κs r e. r)
-report-settled-determined κs a x y s t p q = p ∙ sym q
+pub unit-end-settled-determined : Determines {O = Bool} 0 unit-end-settled.ps unit-end-settled.r unit-end-settled-promise.Post (λ κs r e. r)
+unit-end-settled-determined κs a x y s t p q = p ∙ sym q
 
-pub report-total-after-determined : Determines {O = ℕ} 0 report-total-after.ps report-total-after.r report-total-after-promise.Post (λ κs r e. r)
-report-total-after-determined κs a x y s t p q = p ∙ sym q
+pub unit-end-total-after-determined : Determines {O = ℕ} 0 unit-end-total-after.ps unit-end-total-after.r unit-end-total-after-promise.Post (λ κs r e. r)
+unit-end-total-after-determined κs a x y s t p q = p ∙ sym q
 
 -- ---- receiving
 
-pub receiving-silence-determined : Determines {O = Left} 0 receiving-silence.ps receiving-silence.r receiving-silence-promise.Post (λ κs r e. r)
-receiving-silence-determined κs a x y s t p q = p ∙ sym q
+pub receiving-silent-determined : Determines {O = AfterUnit} 0 receiving-silent.ps receiving-silent.r receiving-silent-promise.Post (λ κs r e. r)
+receiving-silent-determined κs a x y s t p q = p ∙ sym q
 
-pub receiving-receive-determined : Determines {O = Leaving} 3 receiving-receive.ps receiving-receive.r receiving-receive-promise.Post (λ κs r e. record { left = r; held = now (e .1 .1 .1 .1 .1 .1 .1 .0); done = now (e .1 .1 .1 .1 .1 .1 .1 .1 .0) })
+pub receiving-receive-determined : Determines {O = UnitOutcome} 3 receiving-receive.ps receiving-receive.r receiving-receive-promise.Post (λ κs r e. record { left = r; held = now (e .1 .1 .1 .1 .1 .1 .1 .0); done = now (e .1 .1 .1 .1 .1 .1 .1 .1 .0) })
 receiving-receive-determined κs a x y s t p q = p ∙ sym q
 
 -- ---- view
@@ -251,7 +251,7 @@ view-container-determined κs a x y s t p q = p ∙ sym q
 pub sink-fresh-determined : Determines {O = State} 0 sink-fresh.ps sink-fresh.r sink-fresh-promise.Post (λ κs r e. r)
 sink-fresh-determined κs a x y s t p q = p ∙ sym q
 
-pub sink-determined : Determines {O = Outcome} 4 sink.ps sink.r sink-promise.Post (λ κs r e. record { received = r; held = now (e .1 .1 .1 .1 .1 .0); done = now (e .1 .1 .1 .1 .1 .1 .0) })
+pub sink-determined : Determines {O = ReceivedOutcome} 4 sink.ps sink.r sink-promise.Post (λ κs r e. record { received = r; held = now (e .1 .1 .1 .1 .1 .0); done = now (e .1 .1 .1 .1 .1 .1 .0) })
 sink-determined κs a x y s t p q = p .outcome-is ∙ sym (q .outcome-is)
 
 -- ---- probe_sink
@@ -259,8 +259,8 @@ sink-determined κs a x y s t p q = p .outcome-is ∙ sym (q .outcome-is)
 pub probe-fresh-sink-determined : Determines {O = Plain} 0 probe-fresh-sink.ps probe-fresh-sink.r probe-fresh-sink-promise.Post (λ κs r e. r)
 probe-fresh-sink-determined κs a x y s t p q = p ∙ sym q
 
-pub probe-sink-determined : Determines {O = Probed} 4 probe-sink.ps probe-sink.r probe-sink-promise.Post (λ κs r e. record { shown = r; held = now (e .1 .1 .1 .1 .1 .0); done = now (e .1 .1 .1 .1 .1 .1 .0) })
+pub probe-sink-determined : Determines {O = SinkProbed} 4 probe-sink.ps probe-sink.r probe-sink-promise.Post (λ κs r e. record { shown = r; held = now (e .1 .1 .1 .1 .1 .0); done = now (e .1 .1 .1 .1 .1 .1 .0) })
 probe-sink-determined κs a x y s t p q = p ∙ sym q
 
-pub probe-handed-determined : Determines {O = Written} 2 probe-handed.ps probe-handed.r probe-handed-promise.Post (λ κs r e. record { number = r; bytes = now (e .1 .1 .1 .1 .0) })
+pub probe-handed-determined : Determines {O = ContainerWritten} 2 probe-handed.ps probe-handed.r probe-handed-promise.Post (λ κs r e. record { number = r; bytes = now (e .1 .1 .1 .1 .0) })
 probe-handed-determined κs a x y s t p q = p ∙ sym q

@@ -14,8 +14,8 @@ use Rattle.probe_sources.specs.Probe.{Probed}
 use Rattle.promises.proofs.Determined.{Determines}
 use Rattle.refusals.proofs.number.Kinds as refusals-number
 use Rattle.refusals.proofs.number.Reads as refusals-number-promise
-use Rattle.shape.proofs.au4.Kinds as shape-au4
-use Rattle.shape.proofs.au4.Reads as shape-au4-promise
+use Rattle.shape.proofs.au4_shape.Kinds as shape-au4-shape
+use Rattle.shape.proofs.au4_shape.Reads as shape-au4-shape-promise
 use Rattle.shape.proofs.place.Kinds as shape-place
 use Rattle.shape.proofs.place.Reads as shape-place-promise
 use Rattle.shape.proofs.held_count.Kinds as shape-held-count
@@ -60,8 +60,8 @@ refusals-number-determined κs a x y s t p q = p ∙ sym q
 
 -- ---- shape
 
-pub shape-au4-determined : Determines {O = Shape} 0 shape-au4.ps shape-au4.r shape-au4-promise.Post (λ κs r e. r)
-shape-au4-determined κs a x y s t p q = p ∙ sym q
+pub shape-au4-shape-determined : Determines {O = Shape} 0 shape-au4-shape.ps shape-au4-shape.r shape-au4-shape-promise.Post (λ κs r e. r)
+shape-au4-shape-determined κs a x y s t p q = p ∙ sym q
 
 pub shape-place-determined : Determines {O = ℕ} 0 shape-place.ps shape-place.r shape-place-promise.Post (λ κs r e. r)
 shape-place-determined κs a x y s t p q = p .0 ∙ sym (q .0)
@@ -91,7 +91,7 @@ payload-call-determined κs a x y s t p q = p .outcome-is ∙ sym (q .outcome-is
 pub container-source-fresh-determined : Determines {O = between-containers.State} 0 container-source-fresh.ps container-source-fresh.r container-source-fresh-promise.Post (λ κs r e. r)
 container-source-fresh-determined κs a x y s t p q = p ∙ sym q
 
-pub container-source-determined : Determines {O = container-left.Outcome} 3 container-source.ps container-source.r container-source-promise.Post (λ κs r e. record { sent = r; container = now (e .1 .1 .1 .1 .0) })
+pub container-source-determined : Determines {O = container-left.SentOutcome} 3 container-source.ps container-source.r container-source-promise.Post (λ κs r e. record { sent = r; container = now (e .1 .1 .1 .1 .0) })
 container-source-determined κs a x y s t p q = p .outcome-is ∙ sym (q .outcome-is)
 
 -- ---- unit
@@ -107,7 +107,7 @@ unit-pour-determined κs a x y s t p q = p ∙ sym q
 pub unit-source-fresh-determined : Determines {O = between-units.State} 0 unit-source-fresh.ps unit-source-fresh.r unit-source-fresh-promise.Post (λ κs r e. r)
 unit-source-fresh-determined κs a x y s t p q = p ∙ sym q
 
-pub unit-source-determined : Determines {O = unit-left.Outcome} 3 unit-source.ps unit-source.r unit-source-promise.Post (λ κs r e. record { made = r; unit = now (e .1 .1 .1 .1 .0) })
+pub unit-source-determined : Determines {O = unit-left.MadeOutcome} 3 unit-source.ps unit-source.r unit-source-promise.Post (λ κs r e. record { made = r; unit = now (e .1 .1 .1 .1 .0) })
 unit-source-determined κs a x y s t p q = p .outcome-is ∙ sym (q .outcome-is)
 
 -- ---- probe_sources

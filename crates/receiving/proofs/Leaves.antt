@@ -11,8 +11,8 @@ use Rattle.copier.proofs.Parts.{length-part}
 use Rattle.shape.specs.Shape.{Fit, unitLength, placeOf, runFrom}
 use Rattle.shape.specs.declared.Shape.{Shape}
 use Rattle.shape.specs.declared.Adjustment.{Adjustment}
-use Rattle.reading.specs.Reading.{restarts, adjustmentOf}
-use Rattle.reading.specs.declared.Taken.{Taken}
+use Rattle.pointer_rules.specs.Rules.{restarts, adjustmentOf}
+use Rattle.pointer_rules.specs.declared.Taken.{Taken}
 use Rattle.cut.specs.Cut.{Line, Cuts, cutOf, completedOf, insidePart, endedCount, doneOf, heldOf}
 use Rattle.cut.specs.declared.Cut.{Cut}
 use Rattle.cut.proofs.Within.{inside-fits}
@@ -25,9 +25,9 @@ use Rattle.monitor.specs.declared.Seen.{Seen}
 use Rattle.receiving.specs.declared.Begin.{Begin}
 use Rattle.receiving.specs.declared.Both.{Both}
 use Rattle.receiving.specs.declared.Ended.{Ended}
-use Rattle.receiving.specs.declared.Left.{Left}
-use Rattle.receiving.specs.Turns.{seenWhere, takenIn, turned, takenBoth}
-use Rattle.receiving.specs.Receiving.{forgot, fromIn, beginIn, cutIn, notSeen, watched, endedIn, leftBy, bothSeen, received, Leaves, Inside, Seeable, Receivable}
+use Rattle.receiving.specs.declared.AfterUnit.{AfterUnit}
+use Rattle.receiving.specs.Turns.{seenWhere, takenWhere, turned, takenBoth}
+use Rattle.receiving.specs.Receiving.{forgot, fromIn, beginIn, cutIn, notSeen, watched, endedIn, afterBy, bothSeen, receivedNormal, NormalOutcomeIs, Inside, Seeable, Receivable}
 
 -- ---- what is watched
 
@@ -63,15 +63,15 @@ from-goes s restart a offset r h e = rw h e
 pub seen-ended : (ended : Bool) (columns : ℕ) (container : List ℕ) (o : Overhead) → ended ≡ true → o ≡ seenIn columns container → o ≡ seenWhere ended columns container
 seen-ended ended columns container o h j = rw h j
 
-pub taken-ended : (ended : Bool) (o : Overhead) (e : Expected) (m : Monitor) (r : Seen) → ended ≡ true → r ≡ seenOf m o e → r ≡ takenIn ended o e m
+pub taken-ended : (ended : Bool) (o : Overhead) (e : Expected) (m : Monitor) (r : Seen) → ended ≡ true → r ≡ seenOf m o e → r ≡ takenWhere ended o e m
 taken-ended ended o e m r h j = rw h j
 
-pub taken-none : (ended : Bool) (o : Overhead) (e : Expected) (m : Monitor) (r : Seen) → ended ≡ false → r ≡ notSeen m → r ≡ takenIn ended o e m
+pub taken-none : (ended : Bool) (o : Overhead) (e : Expected) (m : Monitor) (r : Seen) → ended ≡ false → r ≡ notSeen m → r ≡ takenWhere ended o e m
 taken-none ended o e m r h j = rw h j
 
 -- what is seen where it ended, taken in where it ended
 taken-watched : (ended : Bool) (columns : ℕ) (container : List ℕ) (e : Expected) (m : Monitor)
-    → takenIn ended (seenWhere ended columns container) e m ≡ watched ended columns container e m
+    → takenWhere ended (seenWhere ended columns container) e m ≡ watched ended columns container e m
 unfolding watched
 taken-watched true columns container e m = refl
 taken-watched false columns container e m = refl
@@ -115,12 +115,12 @@ module _ (s : Shape) (c : Cut) (unit : List ℕ) (w : Inside s c unit) (h : c .i
 -- ---- what is seen of both
 
 pub left-by : (c : Cut) (first second : Seen) (ended : Ended) → ended ≡ endedIn c first second
-    → record { monitor = second .monitor; held = c .left; ended = ended } ≡ leftBy c first second
+    → record { monitor = second .monitor; held = c .rest; ended = ended } ≡ afterBy c first second
 left-by c first second ended e = rw e refl
 
 -- one turn
 pub turn-takes : (k : ℕ) (c : Cut) (completed inside : Overhead) (e : Expected) (b : Both) (ended : Bool) (o : Overhead) (later : Seen)
-    → ended ≡ cond (eqb k 0) (c .ends) (c .inside) → o ≡ cond (eqb k 0) completed inside → later ≡ takenIn ended o e (b .later .monitor)
+    → ended ≡ cond (eqb k 0) (c .ends) (c .inside) → o ≡ cond (eqb k 0) completed inside → later ≡ takenWhere ended o e (b .later .monitor)
     → record { earlier = b .later; later = later } ≡ turned k c completed inside e b
 turn-takes k c completed inside e b ended o later h i j = rw (j, h, i) refl
 
@@ -135,15 +135,15 @@ unfolding turns
 turns-on k c completed inside e b₀ b r h j = rw add-one (rw h at j)
 
 -- two turns take in both
-pub turns-taken : (k : ℕ) (c : Cut) (completed inside : Overhead) (e : Expected) (m : Monitor) (none : Seen) (b : Both) (r : Left)
-    → none ≡ notSeen m → 2 ≤ k → k ≤ 2 → b ≡ turns k c completed inside e (record { earlier = none; later = none }) → r ≡ leftBy c (b .earlier) (b .later)
+pub turns-taken : (k : ℕ) (c : Cut) (completed inside : Overhead) (e : Expected) (m : Monitor) (none : Seen) (b : Both) (r : AfterUnit)
+    → none ≡ notSeen m → 2 ≤ k → k ≤ 2 → b ≡ turns k c completed inside e (record { earlier = none; later = none }) → r ≡ afterBy c (b .earlier) (b .later)
     → r ≡ takenBoth c completed inside m e
 unfolding turns
 turns-taken k c completed inside e m none b r n h i j l =
     let two : k ≡ 2 = omega arith in
     l ∙ rw (j, two, n) refl
 
-pub both-watched : (s : Shape) (c : Cut) (done inside : List ℕ) (m : Monitor) (e : Expected) (o p : Overhead) (r : Left)
+pub both-watched : (s : Shape) (c : Cut) (done inside : List ℕ) (m : Monitor) (e : Expected) (o p : Overhead) (r : AfterUnit)
     → o ≡ seenWhere (c .ends) (s .columns) done → p ≡ seenWhere (c .inside) (s .columns) inside → r ≡ takenBoth c o p m e
     → r ≡ bothSeen s c done inside m e
 unfolding bothSeen
@@ -185,11 +185,11 @@ module _ (s : Shape) (t : Taken) (offset count : ℕ) (unit held done : List ℕ
               done-is = l ∙ q .sizes .done-is;
             }
 
-        pub unit-leaves : (m before : Monitor) (e : Expected) (left : Left)
+        pub unit-leaves : (m before : Monitor) (e : Expected) (left : AfterUnit)
             → before ≡ forgot t m
             → left ≡ bothSeen s c done′ (insidePart s c unit) before e
-            → Leaves s t offset count m e unit held done left held′ done′
-        unfolding received bothSeen
+            → NormalOutcomeIs s t offset count m e unit held done left held′ done′
+        unfolding receivedNormal bothSeen
         unit-leaves m before e left before-is left-is =
             let c-is : c ≡ cutIn s t offset count = cuts .cut-is ∙ ap (λ (x : Begin). cutOf s (x .kept) (x .from)) b-is in
             let done-as : done′ ≡ doneOf s c unit held done = cuts .done-is ∙ ap (λ (x : Cut). doneOf s x unit held done) (sym (cuts .cut-is)) in

@@ -8,8 +8,8 @@ use lib.ListN.{length}
 use Rattle.shape.specs.Shape.{Fit, unitLength, placeOf, runFrom}
 use Rattle.shape.specs.declared.Shape.{Shape}
 use Rattle.shape.specs.declared.Adjustment.{Adjustment}
-use Rattle.reading.specs.Reading.{restarts, adjustmentOf}
-use Rattle.reading.specs.declared.Taken.{Taken}
+use Rattle.pointer_rules.specs.Rules.{restarts, adjustmentOf}
+use Rattle.pointer_rules.specs.declared.Taken.{Taken}
 use Rattle.cut.specs.Cut.{Line, Sizes, cutOf, completedOf, insidePart, endedCount, doneOf, heldOf}
 use Rattle.cut.specs.declared.Cut.{Cut}
 use Rattle.monitor.specs.Seeing.{seenIn}
@@ -19,7 +19,7 @@ use Rattle.monitor.specs.declared.Expected.{Expected}
 use Rattle.monitor.specs.declared.Seen.{Seen}
 use Rattle.receiving.specs.declared.Begin.{Begin}
 use Rattle.receiving.specs.declared.Ended.{Ended}
-use Rattle.receiving.specs.declared.Left.{Left}
+use Rattle.receiving.specs.declared.AfterUnit.{AfterUnit}
 
 -- ---- a restart
 
@@ -70,14 +70,14 @@ endedIn c first second =
 
 -- ---- what a unit leaves
 
-pub record Leaving : Type 0 where
-  pub left : Left
+pub record UnitOutcome : Type 0 where
+  pub after : AfterUnit
   pub held : List ℕ
   pub done : List ℕ
 
 -- "A unit that ends in alarm or lost .. hands back nothing. It clears held count, parity, accepted values, defects, message place and run, the count to 48,
 -- label and defect runs"
-unfoldable pub silence : Left
+unfoldable pub silence : AfterUnit
 silence =
     record {
       monitor = blankOf 48;
@@ -94,31 +94,31 @@ silence =
     }
 
 -- what a unit cut so leaves, by what is seen of both
-abbrev pub leftBy : Cut → Seen → Seen → Left
-leftBy c first second = record { monitor = second .monitor; held = c .left; ended = endedIn c first second }
+abbrev pub afterBy : Cut → Seen → Seen → AfterUnit
+afterBy c first second = record { monitor = second .monitor; held = c .rest; ended = endedIn c first second }
 
 -- what is seen, of the container completed in the done buffer and then of the one inside the unit
-unfoldable pub bothSeen : Shape → Cut → List ℕ → List ℕ → Monitor → Expected → Left
+unfoldable pub bothSeen : Shape → Cut → List ℕ → List ℕ → Monitor → Expected → AfterUnit
 bothSeen s c completed inside m e =
     let first = watched (c .ends) (s .columns) completed e m in
     let second = watched (c .inside) (s .columns) inside e (first .monitor) in
-    leftBy c first second
+    afterBy c first second
 
 -- a unit that ends normal at the offset, its word taken as t, with `count` bytes held before it
-unfoldable pub received : Shape → Taken → ℕ → ℕ → Monitor → Expected → List ℕ → List ℕ → List ℕ → Leaving
-received s t offset count m e unit held done =
+unfoldable pub receivedNormal : Shape → Taken → ℕ → ℕ → Monitor → Expected → List ℕ → List ℕ → List ℕ → UnitOutcome
+receivedNormal s t offset count m e unit held done =
     let c = cutIn s t offset count in
     record {
-      left = bothSeen s c (completedOf s c unit held) (insidePart s c unit) (forgot t m) e;
+      after = bothSeen s c (completedOf s c unit held) (insidePart s c unit) (forgot t m) e;
       held = heldOf c unit held;
       done = doneOf s c unit held done;
     }
 
 -- ---- the promise, and where it can be given
 
-abbrev pub Leaves : Shape → Taken → ℕ → ℕ → Monitor → Expected → List ℕ → List ℕ → List ℕ → Left → List ℕ → List ℕ → Type 0
-Leaves s t offset count m e unit held done r held′ done′ =
-    _≡_ {A = Leaving} (record { left = r; held = held′; done = done′ }) (received s t offset count m e unit held done)
+abbrev pub NormalOutcomeIs : Shape → Taken → ℕ → ℕ → Monitor → Expected → List ℕ → List ℕ → List ℕ → AfterUnit → List ℕ → List ℕ → Type 0
+NormalOutcomeIs s t offset count m e unit held done r held′ done′ =
+    _≡_ {A = UnitOutcome} (record { after = r; held = held′; done = done′ }) (receivedNormal s t offset count m e unit held done)
 
 pub record Inside (s : Shape) (c : Cut) (unit : List ℕ) : Type 0 where
   pub fit : Fit s

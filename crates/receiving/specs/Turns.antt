@@ -11,8 +11,8 @@ use Rattle.monitor.specs.declared.Expected.{Expected}
 use Rattle.monitor.specs.declared.Overhead.{Overhead}
 use Rattle.monitor.specs.declared.Seen.{Seen}
 use Rattle.receiving.specs.declared.Both.{Both}
-use Rattle.receiving.specs.declared.Left.{Left}
-use Rattle.receiving.specs.Receiving.{notSeen, leftBy}
+use Rattle.receiving.specs.declared.AfterUnit.{AfterUnit}
+use Rattle.receiving.specs.Receiving.{notSeen, afterBy}
 
 -- where no container ended
 abbrev pub nothingSeen : Overhead
@@ -21,15 +21,15 @@ nothingSeen = record { j1 = 0; b3 = 0; c2 = 0; g1 = 0; parity = 0 }
 abbrev pub seenWhere : Bool → ℕ → List ℕ → Overhead
 seenWhere ended columns container = cond ended (seenIn columns container) nothingSeen
 
-abbrev pub takenIn : Bool → Overhead → Expected → Monitor → Seen
-takenIn ended o e m = cond ended (seenOf m o e) (notSeen m)
+abbrev pub takenWhere : Bool → Overhead → Expected → Monitor → Seen
+takenWhere ended o e m = cond ended (seenOf m o e) (notSeen m)
 
 -- turn 0 takes in the one completed, turn 1 the one inside
 abbrev pub turned : ℕ → Cut → Overhead → Overhead → Expected → Both → Both
 turned k c completed inside e b =
-    record { earlier = b .later; later = takenIn (cond (eqb k 0) (c .ends) (c .inside)) (cond (eqb k 0) completed inside) e (b .later .monitor) }
+    record { earlier = b .later; later = takenWhere (cond (eqb k 0) (c .ends) (c .inside)) (cond (eqb k 0) completed inside) e (b .later .monitor) }
 
-abbrev pub takenBoth : Cut → Overhead → Overhead → Monitor → Expected → Left
+abbrev pub takenBoth : Cut → Overhead → Overhead → Monitor → Expected → AfterUnit
 takenBoth c completed inside m e =
-    let first = takenIn (c .ends) completed e m in
-    leftBy c first (takenIn (c .inside) inside e (first .monitor))
+    let first = takenWhere (c .ends) completed e m in
+    afterBy c first (takenWhere (c .inside) inside e (first .monitor))

@@ -6,14 +6,14 @@ ghost use Prim.Native.Nat.{_+_, _*_, _<_, _≤_};
 ghost use lib.ListN.{length};
 ghost use Rattle.shape.specs.Shape.{Fit};
 ghost use Rattle.cut.specs.Cut.{insidePart};
-ghost use Rattle.receiving.specs.Turns.{nothingSeen, seenWhere, takenIn, turned, takenBoth};
-ghost use Rattle.receiving.specs.Receiving.{Receivable, Inside, Seeable, forgot, fromIn, beginIn, notSeen, endedIn, leftBy, silence, bothSeen, Leaves};
+ghost use Rattle.receiving.specs.Turns.{nothingSeen, seenWhere, takenWhere, turned, takenBoth};
+ghost use Rattle.receiving.specs.Receiving.{Receivable, Inside, Seeable, forgot, fromIn, beginIn, notSeen, endedIn, afterBy, silence, bothSeen, NormalOutcomeIs};
 use cut::Cut;
 use monitor::Expected;
 use monitor::Monitor;
 use monitor::Overhead;
 use monitor::Seen;
-use reading::Taken;
+use pointer_rules::Taken;
 use shape::Adjustment;
 use shape::Shape;
 
@@ -37,7 +37,7 @@ pub struct Ended {
 }
 
 // What a unit leaves: the monitor, how many bytes are held, and what ended.
-pub struct Left {
+pub struct AfterUnit {
     pub monitor: Monitor,
     pub held: usize,
     pub ended: Ended,
@@ -66,7 +66,7 @@ fn pick(test: bool, yes: usize, no: usize) -> usize
 fn forget(t: Taken, m: Monitor) -> Monitor
     ensures { λ r. ⌜ r ≡ forgot t m ⌝ }
 {
-    if reading::restarts(t) {
+    if pointer_rules::is_restart(t) {
         let parity = overhead::Parity {
             known: false,
             value: 0,
@@ -102,8 +102,8 @@ fn goes_on(shape: Shape, t: Taken, offset: u16, count: usize) -> Begin
     requires { ⌜ (Fit shape) × (offset ≤ shape .top) ⌝ }
     ensures { λ r. ⌜ r ≡ beginIn shape t offset count ⌝ }
 {
-    let restart = reading::restarts(t);
-    let a = reading::adjustment_of(t);
+    let restart = pointer_rules::is_restart(t);
+    let a = pointer_rules::adjustment_of(t);
     Begin {
         kept: pick(restart, 0, count),
         from: from(shape, restart, a, offset),
@@ -165,7 +165,7 @@ fn one_if(b: bool) -> u8
 }
 
 // A unit that ends in alarm or lost: nothing is held, nothing ended, and all that was seen is cleared.
-pub fn silence() -> Left
+pub fn silent() -> AfterUnit
     ensures { λ r. ⌜ r ≡ silence ⌝ }
 {
     let first = Told {
@@ -184,7 +184,7 @@ pub fn silence() -> Left
         first,
         second,
     };
-    Left {
+    AfterUnit {
         monitor: monitor::blank(48),
         held: 0,
         ended,
@@ -216,14 +216,14 @@ fn ended_in(c: Cut, earlier: Seen, later: Seen) -> Ended
 }
 
 // What a unit cut so leaves, by what was seen of both.
-fn leave(c: Cut, earlier: Seen, later: Seen) -> Left
-    ensures { λ r. ⌜ r ≡ leftBy c earlier later ⌝ }
+fn after_unit(c: Cut, earlier: Seen, later: Seen) -> AfterUnit
+    ensures { λ r. ⌜ r ≡ afterBy c earlier later ⌝ }
 {
     let after = later.monitor;
     let ended = ended_in(c, earlier, later);
-    Left {
+    AfterUnit {
         monitor: after,
-        held: c.left,
+        held: c.rest,
         ended,
     }
 }
@@ -244,7 +244,7 @@ fn pick_seen(test: bool, yes: Overhead, no: Overhead) -> Overhead
 
 // One container taken in, where it ended.
 fn take(ended: bool, m: Monitor, o: Overhead, e: Expected) -> Seen
-    ensures { λ r. ⌜ r ≡ takenIn ended o e m ⌝ }
+    ensures { λ r. ⌜ r ≡ takenWhere ended o e m ⌝ }
 {
     if ended {
         return monitor::step(m, o, e);
@@ -265,7 +265,7 @@ fn turn(k: usize, c: Cut, completed: Overhead, inside: Overhead, b: Both, e: Exp
 }
 
 // Both taken in, one after the other. The loop leaves one call of the monitor's step: it is then a part of the sink, and the monitor is not copied to and from a call.
-fn take_both(c: Cut, completed: Overhead, inside: Overhead, m: Monitor, e: Expected) -> Left
+fn take_both(c: Cut, completed: Overhead, inside: Overhead, m: Monitor, e: Expected) -> AfterUnit
     ensures { λ r. ⌜ r ≡ takenBoth c completed inside m e ⌝ }
 {
     let none = unseen(m);
@@ -280,11 +280,11 @@ fn take_both(c: Cut, completed: Overhead, inside: Overhead, m: Monitor, e: Expec
     }
     let earlier = b.earlier;
     let later = b.later;
-    leave(c, earlier, later)
+    after_unit(c, earlier, later)
 }
 
 // What is seen in a unit cut so: in the done buffer, and then in the unit itself.
-fn watch_both(shape: Shape, c: Cut, unit: &[u8], done: &[u8], m: Monitor, e: Expected) -> Left
+fn watch_both(shape: Shape, c: Cut, unit: &[u8], done: &[u8], m: Monitor, e: Expected) -> AfterUnit
     requires { ⌜ Seeable shape c (now unit) (now done) ⌝ }
     ensures { λ r. ⌜ r ≡ bothSeen shape c (now (done .entry)) (insidePart shape c (now (unit .entry))) m e ⌝ }
 {
@@ -304,9 +304,9 @@ pub fn receive(
     unit: &[u8],
     held: &mut [u8],
     done: &mut [u8],
-) -> Left
+) -> AfterUnit
     requires { ⌜ Receivable shape t offset count (now unit) (now held) (now done) ⌝ }
-    ensures { λ r. ⌜ Leaves shape t offset count m e (now (unit .entry)) (now (held .entry)) (now (done .entry)) r (now (held .exit)) (now (done .exit)) ⌝ }
+    ensures { λ r. ⌜ NormalOutcomeIs shape t offset count m e (now (unit .entry)) (now (held .entry)) (now (done .entry)) r (now (held .exit)) (now (done .exit)) ⌝ }
 {
     let b = goes_on(shape, t, offset, count);
     let before = forget(t, m);

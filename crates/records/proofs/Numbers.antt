@@ -3,9 +3,9 @@ use mathlib.Core.Path.{refl}
 use mathlib.Core.List.{List}
 use Prim.Native.Nat.{ℕ}
 use Rattle.refusals.proofs.Wrong.{Numbered, numbered-row, numbered-last}
-use Rattle.records.specs.Refusals.{numberOf, placesOf, says}
+use Rattle.records.specs.Refusals.{catalogueNumber, cataloguePlaces, catalogueSays}
 use Rattle.records.specs.Faults.{recordFaults}
 
-pub record-numbered : (place : ℕ) (r : List ℕ) → Numbered says (recordFaults place r)
-unfolding recordFaults says numberOf placesOf
+pub record-numbered : (place : ℕ) (r : List ℕ) → Numbered catalogueSays (recordFaults place r)
+unfolding recordFaults catalogueSays catalogueNumber cataloguePlaces
 record-numbered place r = search (numbered-row, numbered-last)

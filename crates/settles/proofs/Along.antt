@@ -1,4 +1,4 @@
--- A run of any containers of the right length, unit after unit: the pointer locks to the source's offset and follows it, no call is refused, and from the fourth unit on
+-- A run of any containers of the right length, unit pathAfter unit: the pointer locks to the source's offset and follows it, no call is refused, and from the fourth unit on
 -- each unit hands back what the source says ended. Nothing is asked of what the containers hold. Assumes nothing.
 use mathlib.Core.Path.{_≡_, refl, sym, ap, _∙_}
 use mathlib.Core.Bool.{Bool, true, false, _&&_, true≢false}
@@ -15,12 +15,12 @@ use Rattle.shape.specs.declared.Shape.{Shape}
 use Rattle.shape.specs.declared.Adjustment.{Adjustment}
 use Rattle.shape.specs.declared.Adjustment.the-variants.{Nothing, Increment, Decrement}
 use Rattle.unit_source.specs.Source as unit-source
-use Rattle.unit_source.specs.Source.{adjusts, waitAfter, wordSent}
-use Rattle.reading.specs.declared.State.the-variants.{Normal}
-use Rattle.pointer.specs.Machine.{stepOf}
-use Rattle.locks.specs.Meant.{meant}
-use Rattle.locks.proofs.Locks.{Locked, Nearing, nearing-any, nearing-plain, nearing-locked, third, follows}
-use Rattle.settles.specs.Demand.{Run, Path, Spaced, after, pathAt}
+use Rattle.unit_source.specs.Source.{adjusts, sourceWaitAfter, wordSent}
+use Rattle.pointer_rules.specs.declared.State.the-variants.{Normal}
+use Rattle.pointer.specs.Machine.{pointerStep}
+use Rattle.settles_pointer.specs.Meant.{meant}
+use Rattle.settles_pointer.proofs.Locks.{Locked, Nearing, nearing-any, nearing-plain, nearing-locked, third, follows}
+use Rattle.settles.specs.Demand.{Run, Path, Spaced, pathAfter, pathAt}
 use Rattle.settles.proofs.Units.{Ready, Settable, source-after, ready-after, pointer-after, held-goes, held-restarts}
 
 -- Five plain units are enough for the pointer: three lock it, and in two more the wait has passed.
@@ -34,7 +34,7 @@ pub record Runs (s : Shape) (r : Run) : Type 0 where
   pub ready : Ready s r (pathAt s r 0)
   pub spaced : Spaced five (r .ask)
 
--- how far it has come, n units after its begin
+-- how far it has come, n units pathAfter its begin
 pub record Along (s : Shape) (r : Run) (n : ℕ) (x : Path) : Type 0 where
   pub ready : Ready s r x
   -- the source's wait counts the plain units before
@@ -47,11 +47,11 @@ pub record Along (s : Shape) (r : Run) (n : ℕ) (x : Path) : Type 0 where
 -- the word of a unit is taken as it was meant, by a sink that stands at the source's offset
 pub record Meets (s : Shape) (x : Path) (a : Adjustment) : Type 0 where
   pub was : x .state .pointer .state ≡ Normal (x .source .state .offset)
-  pub taken-is : stepOf (x .state .pointer) (s .top) (wordSent a (x .source .state .offset)) .taken ≡ meant (s .top) a (x .source .state .offset)
-  pub now : stepOf (x .state .pointer) (s .top) (wordSent a (x .source .state .offset)) .pointer .state ≡ Normal (offsetAfter (s .top) a (x .source .state .offset))
+  pub taken-is : pointerStep (x .state .pointer) (s .top) (wordSent a (x .source .state .offset)) .taken ≡ meant (s .top) a (x .source .state .offset)
+  pub now : pointerStep (x .state .pointer) (s .top) (wordSent a (x .source .state .offset)) .pointer .state ≡ Normal (offsetAfter (s .top) a (x .source .state .offset))
 
-plain-wait : (a : Adjustment) (wait : ℕ) → adjusts a ≡ false → waitAfter a wait ≡ more wait 3
-unfolding adjusts waitAfter
+plain-wait : (a : Adjustment) (wait : ℕ) → adjusts a ≡ false → sourceWaitAfter a wait ≡ more wait 3
+unfolding adjusts sourceWaitAfter
 plain-wait Nothing wait e = refl
 plain-wait Increment wait e = absurd (true≢false e)
 plain-wait Decrement wait e = absurd (true≢false e)
@@ -74,7 +74,7 @@ module _ (s : Shape) (r : Run) (u : Runs s r) where
   -- the third word of one value, or a later one: by rule 3, or as a plain one at the offset already held
   third-together : (n : ℕ) (x : Path) (h : Ready s r x) (late : (adjusts Nothing && ltb (x .source .state .wait) 3) ≡ false) → 2 ≤ n
       → Nearing (x .source .state .offset) n (x .state .pointer)
-      → take (heldCount s (x .source .state .offset)) (after s r x Nothing .held) ≡ take (heldCount s (x .source .state .offset)) (r .box (x .source .number + 1))
+      → take (heldCount s (x .source .state .offset)) (pathAfter s r x Nothing .held) ≡ take (heldCount s (x .source .state .offset)) (r .box (x .source .number + 1))
   unfolding wordSent offsetAfter endedBy meant
   third-together n x h late w near =
       let v = x .source .state .offset in
@@ -122,14 +122,14 @@ module _ (s : Shape) (r : Run) (u : Runs s r) where
     -- ---- one unit
 
     abbrev y : Path
-    y = after s r x (r .ask n)
+    y = pathAfter s r x (r .ask n)
 
     pub offset-is : y .source .state .offset ≡ offsetAfter (s .top) (r .ask n) (x .source .state .offset)
-    unfolding unit-source.stateAfter
+    unfolding unit-source.unitSourceAfter
     offset-is = rw (source-after s (u .fit) r (u .set) x (r .ask n) (h .ready) late)
 
-    wait-is : y .source .state .wait ≡ waitAfter (r .ask n) (x .source .state .wait)
-    unfolding unit-source.stateAfter
+    wait-is : y .source .state .wait ≡ sourceWaitAfter (r .ask n) (x .source .state .wait)
+    unfolding unit-source.unitSourceAfter
     wait-is = rw (source-after s (u .fit) r (u .set) x (r .ask n) (h .ready) late)
 
     pub number-is : y .source .number ≡ x .source .number + endedBy (r .ask n) (x .source .state .offset)
@@ -193,7 +193,7 @@ module _ (s : Shape) (r : Run) (u : Runs s r) where
               together = λ _. together-later later;
             }
 
-  -- ALONG THE RUN, after every unit
+  -- ALONG THE RUN, pathAfter every unit
   pub along : (n : ℕ) → Along s r n (pathAt s r n)
   unfolding pathAt
   along zero =

@@ -10,7 +10,7 @@ use borrow.Author.Tests.{leb-true, leb-false}
 use Rattle.shape.specs.Shape.{heldCount, endedBy}
 use Rattle.shape.specs.declared.Shape.{Shape}
 use Rattle.shape.proofs.Offsets.{held-low}
-use Rattle.together.proofs.Together.{unit-bytes}
+use Rattle.settles_stream.proofs.Together.{unit-bytes}
 use Rattle.settles.specs.Demand.{Run, pathAt}
 use Rattle.settles.proofs.Along.{Runs, along, number-is, offset-is}
 

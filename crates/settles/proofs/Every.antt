@@ -9,12 +9,12 @@ use Rattle.refusals.specs.declared.Answer.the-variants.{Done}
 use Rattle.shape.specs.Shape.{endedBy}
 use Rattle.shape.specs.declared.Shape.{Shape}
 use Rattle.unit_source.specs.Source as unit-source
-use Rattle.stream.specs.Stream as stream
-use Rattle.together.specs.Together.{boxes, watchedAll, violationsAll, violationsTold}
-use Rattle.together.proofs.Together.{boxes-append}
-use Rattle.report.specs.Report.{settledOf, totalOf}
+use Rattle.unit_source_theorems.specs.Stream as stream
+use Rattle.settles_stream.specs.InOrder.{boxes, watchedAll, violationsAll, violationsTold}
+use Rattle.settles_stream.proofs.Together.{boxes-append}
+use Rattle.unit_end.specs.Report.{settledOf, totalOf}
 use Rattle.sink.specs.Sink as sink
-use Rattle.settles.specs.Demand.{Run, Path, after, pathAt, sentAt, fedAt, madeAt, receivedAt, handedAt, unsettled, handedFrom, endedFrom}
+use Rattle.settles.specs.Demand.{Run, Path, pathAfter, pathAt, sentAt, fedAt, madeAt, receivedAt, handedAt, unsettled, handedFrom, endedFrom}
 use Rattle.settles.proofs.Units.{sent-is, fed-done, settled-is, total-after, normal, handed-goes, monitor-goes, told-goes}
 use Rattle.settles.proofs.Along.{Runs, Along, Meets, along, late, meets, number-is}
 use Rattle.settles.proofs.Count.{numberAt}
@@ -28,13 +28,13 @@ total-on false total before n e = omega arith
 module _ (s : Shape) (r : Run) (u : Runs s r) where
   -- no call is refused
   pub sent-all : (n : ℕ) → sentAt s r n .made .answer ≡ Done
-  sent-all n = ap (λ (o : unit-source.Outcome). o .made .answer) (sent-is s (u .fit) r (u .set) (pathAt s r n) (r .ask n) (along s r u n .ready) (late s r u n (pathAt s r n) (along s r u n)))
+  sent-all n = ap (λ (o : unit-source.MadeOutcome). o .made .answer) (sent-is s (u .fit) r (u .set) (pathAt s r n) (r .ask n) (along s r u n .ready) (late s r u n (pathAt s r n) (along s r u n)))
 
   pub fed-all : (n : ℕ) → fedAt s r n .received .answer ≡ Done
   fed-all n = fed-done s (u .fit) r (u .set) (pathAt s r n) (r .ask n) (along s r u n .ready) (late s r u n (pathAt s r n) (along s r u n))
 
   ended-is : (n : ℕ) → sentAt s r n .made .ended ≡ endedBy (r .ask n) (pathAt s r n .source .state .offset)
-  ended-is n = ap (λ (o : unit-source.Outcome). o .made .ended) (sent-is s (u .fit) r (u .set) (pathAt s r n) (r .ask n) (along s r u n .ready) (late s r u n (pathAt s r n) (along s r u n)))
+  ended-is n = ap (λ (o : unit-source.MadeOutcome). o .made .ended) (sent-is s (u .fit) r (u .set) (pathAt s r n) (r .ask n) (along s r u n .ready) (late s r u n (pathAt s r n) (along s r u n)))
 
   -- the source goes on as many containers as it says ended
   pub number-on : (n : ℕ) → numberAt s r u (suc n) ≡ numberAt s r u n + sentAt s r n .made .ended
@@ -66,7 +66,7 @@ module _ (s : Shape) (r : Run) (u : Runs s r) where
     cs = boxes (r .box) (x .source .number) (sentAt s r n .made .ended)
 
     pub handed-all : handedAt s r (pathAt s r) (receivedAt s r) n ≡ cs
-    unfolding pathAt after stream.after
+    unfolding pathAt pathAfter stream.sendingAfter
     handed-all =
         handed-goes s (u .fit) r (u .set) x (r .ask n) (h .ready) (late s r u n x h) (m .was) (m .taken-is) (m .now) (h .together w)
         ∙ ap (boxes (r .box) (x .source .number)) (sym (ended-is n))
@@ -86,9 +86,9 @@ module _ (s : Shape) (r : Run) (u : Runs s r) where
     unfolding pathAt
     settled-all =
         settled-is s (u .fit) r (u .set) x (r .ask n) (h .ready) (late s r u n x h)
-        ∙ ap (λ (b : Bool). settledOf b (after s r x (r .ask n) .state .monitor) (r .expected)) (normal s (u .fit) r (u .set) x (r .ask n) (h .ready) (late s r u n x h) (m .was) (m .taken-is) (m .now))
+        ∙ ap (λ (b : Bool). settledOf b (pathAfter s r x (r .ask n) .state .monitor) (r .expected)) (normal s (u .fit) r (u .set) x (r .ask n) (h .ready) (late s r u n x h) (m .was) (m .taken-is) (m .now))
 
-  -- in any units one after the other
+  -- in any units one pathAfter the other
   pub in-order-all : (units n : ℕ) → 3 ≤ n → handedFrom s r (pathAt s r) (receivedAt s r) n units ≡ boxes (r .box) (numberAt s r u n) (endedFrom (madeAt s r) n units)
   unfolding handedFrom endedFrom boxes
   in-order-all zero n w = refl

@@ -8,7 +8,7 @@ use lib.Dec.{eqb}
 use lib.ListN.{replicate}
 use Rattle.shape.specs.declared.Shape.{Shape}
 use Rattle.shape.specs.declared.Adjustment.the-variants.{Nothing, Increment}
-use Rattle.sink.specs.Sink.{freshState}
+use Rattle.sink.specs.Sink.{freshSink}
 use Rattle.settles.specs.Demand.{Run, pathAt, receivedAt, handedAt}
 use Rattle.settles.proofs.Opened.{opened}
 
@@ -25,7 +25,7 @@ run =
       expected = record { label = 0x12; trace = replicate 15 0x20 };
       flags = record { monitored = true; rdi = true; ssf = true; ais = true };
       source = record { offset = 17; wait = 3 };
-      state = freshState;
+      state = freshSink;
       unit = replicate 21 0;
       held = replicate 18 0;
       done = replicate 18 0;

@@ -6,7 +6,7 @@ use lib.ListN.{length}
 use Rattle.shape.specs.Shape.{Fit}
 use Rattle.shape.specs.declared.Shape.{Shape}
 use Rattle.container_source.specs.declared.State.{State}
-use Rattle.sending.specs.Run as sending
+use Rattle.container_source_theorems.specs.Run as sending
 use Rattle.settles.specs.Demand.{Run, Making, Fine, Given, Spaced, Supplied, Good, Settles, most, logOf}
 use Rattle.settles.proofs.Sources.{made-low}
 use Rattle.settles.proofs.Along.{five}
@@ -20,13 +20,13 @@ later s m = record { first = sending.stateAt s (m .first) (m .calls) 1; calls = 
 later-is : (s : Shape) (m : Making) (k : ℕ) → sending.stateAt s (later s m .first) (later s m .calls) k ≡ sending.stateAt s (m .first) (m .calls) (suc k)
 unfolding sending.stateAt
 later-is s m zero = refl
-later-is s m (suc k) = ap (λ (x : State). sending.called s x (m .calls (suc k)) .sent .state) (later-is s m k)
+later-is s m (suc k) = ap (λ (x : State). sending.containerSourceCalled s x (m .calls (suc k)) .sent .state) (later-is s m k)
 
 module _ (noneBefore : ℕ) (s : Shape) (m : Making) (r : Run) (f : Fit s) (i : InRange s m r) (fine : Fine s r)
     (box-is : (k : ℕ) → r .box k ≡ sending.containerAt s (m .first) (m .calls) k) (given : (k : ℕ) → Given s (r .expected) (m .calls k)) (spaced : Spaced noneBefore (r .ask))
   where
     first-supplied : Supplied s (later s m) r
-    first-supplied k = box-is (suc k) ∙ ap (λ (x : State). sending.called s x (m .calls (suc k)) .container) (sym (later-is s m k))
+    first-supplied k = box-is (suc k) ∙ ap (λ (x : State). sending.containerSourceCalled s x (m .calls (suc k)) .container) (sym (later-is s m k))
 
     first-good : Good noneBefore s (later s m) r
     first-good =

@@ -16,27 +16,27 @@ use Rattle.shape.specs.Shape.{Fit, unitLength}
 use Rattle.shape.specs.declared.Shape.{Shape}
 use Rattle.container_source.specs.Source as container-source
 use Rattle.container_source.specs.declared.State as container-source-state
-use Rattle.sending.specs.Run as sending
+use Rattle.container_source_theorems.specs.Run as sending
 use Rattle.unit_source.specs.Source as unit-source
 use Rattle.unit_source.specs.declared.State as unit-source-state
 use Rattle.pointer.specs.Machine.{isNormal, offsetOf}
-use Rattle.pointer.specs.declared.After.{After}
+use Rattle.pointer.specs.declared.AfterWord.{AfterWord}
 use Rattle.cut.specs.declared.Cut.{Cut}
 use Rattle.cut.proofs.Outcome.{done-length, held-length}
 use Rattle.monitor.specs.Seeing.{seenIn}
 use Rattle.monitor.specs.Monitoring.{seenOf}
 use Rattle.monitor.specs.declared.Monitor.{Monitor}
 use Rattle.monitor.specs.declared.Expected.{Expected}
-use Rattle.near.specs.Near.{Whole}
-use Rattle.near.proofs.Settles.{whole-step, whole-blank, whole-forgot}
-use Rattle.receiving.specs.Receiving.{Leaving, forgot, cutIn, watched, bothSeen, received, silence, beginIn}
-use Rattle.report.specs.Report.{totalOf}
-use Rattle.sink.specs.Sink.{freshState, Outcome, outOfRange, pointed, leaving, told, refusing, sink}
+use Rattle.settles_monitor.specs.Near.{Whole}
+use Rattle.settles_monitor.proofs.Settles.{whole-step, whole-blank, whole-forgot}
+use Rattle.receiving.specs.Receiving.{UnitOutcome, forgot, cutIn, watched, bothSeen, receivedNormal, silence, beginIn}
+use Rattle.unit_end.specs.Report.{totalOf}
+use Rattle.sink.specs.Sink.{freshSink, ReceivedOutcome, sinkOutOfRange, pointed, unitOutcome, told, refusing, sink}
 use Rattle.sink.specs.declared.State.{State}
 use Rattle.sink.proofs.Refuses.{nothing-wrong}
-use Rattle.reach.specs.Reach.{Call, called, stateAfter, reached}
-use Rattle.reach.proofs.Refused.{faults, answer-is}
-use Rattle.reach.proofs.Handed.{called-is, is-fed, can}
+use Rattle.sink_theorems.specs.Reach.{SinkCall, sinkCalled, afterCalls, reached}
+use Rattle.sink_theorems.proofs.Refused.{faults, answer-is}
+use Rattle.sink_theorems.proofs.Handed.{called-is, is-fed, can}
 
 -- ---- the sink: 15 places
 
@@ -50,17 +50,17 @@ unfolding bothSeen
 both-whole s c completed inside m e h =
     watched-whole (c .inside) (s .columns) inside e (watched (c .ends) (s .columns) completed e m .monitor) (watched-whole (c .ends) (s .columns) completed e m h)
 
-leaving-whole : (s : Shape) (state : State) (a : After) (e : Expected) (unit held done : List ℕ) → Whole (state .monitor) → Whole (leaving s state a e unit held done .left .monitor)
-unfolding leaving received silence
+leaving-whole : (s : Shape) (state : State) (a : AfterWord) (e : Expected) (unit held done : List ℕ) → Whole (state .monitor) → Whole (unitOutcome s state a e unit held done .after .monitor)
+unfolding unitOutcome receivedNormal silence
 leaving-whole s state a e unit held done h =
-    by-test (λ (l : Leaving). Whole (l .left .monitor)) (isNormal (a .pointer .state))
+    by-test (λ (l : UnitOutcome). Whole (l .after .monitor)) (isNormal (a .pointer .state))
     (λ _. both-whole s (cutIn s (a .taken) (offsetOf (a .pointer .state)) (state .held)) _ _ (forgot (a .taken) (state .monitor)) e (whole-forgot (a .taken) (state .monitor) h))
     (λ _. whole-blank 48)
 
-pub call-whole : (s : Shape) (state : State) (c : Call) → Whole (state .monitor) → Whole (called s state c .received .state .monitor)
+pub call-whole : (s : Shape) (state : State) (c : SinkCall) → Whole (state .monitor) → Whole (sinkCalled s state c .received .state .monitor)
 unfolding sink told refusing
 call-whole s state c h =
-    outcome-by (λ (o : Outcome). Whole (o .received .state .monitor)) (faults s state c)
+    outcome-by (λ (o : ReceivedOutcome). Whole (o .received .state .monitor)) (faults s state c)
     (leaving-whole s state (pointed s (state .pointer) (c .unit)) (c .expected) (c .unit) (c .held) (c .done) h)
     (λ _. h)
 
@@ -71,47 +71,47 @@ total-low : (total : ℕ) (settled : Bool) → total ≤ 65535 → totalOf total
 unfolding totalOf
 total-low total settled h = by-test (λ (n : ℕ). n ≤ 65535) settled (λ _. h) (λ _. omega arith)
 
-pub call-total : (s : Shape) (state : State) (c : Call) → state .total ≤ 65535 → called s state c .received .state .total ≤ 65535
+pub call-total : (s : Shape) (state : State) (c : SinkCall) → state .total ≤ 65535 → sinkCalled s state c .received .state .total ≤ 65535
 unfolding sink told refusing
 call-total s state c h =
-    outcome-by (λ (o : Outcome). o .received .state .total ≤ 65535) (faults s state c)
+    outcome-by (λ (o : ReceivedOutcome). o .received .state .total ≤ 65535) (faults s state c)
     (total-low (state .total) _ h)
     (λ _. h)
 
 -- ---- any row of calls
 
-calls-keep : (s : Shape) (state : State) (calls : List Call) → Whole (state .monitor) → state .total ≤ 65535
-    → Whole (stateAfter s state calls .monitor) × (stateAfter s state calls .total ≤ 65535)
-unfolding stateAfter
+calls-keep : (s : Shape) (state : State) (calls : List SinkCall) → Whole (state .monitor) → state .total ≤ 65535
+    → Whole (afterCalls s state calls .monitor) × (afterCalls s state calls .total ≤ 65535)
+unfolding afterCalls
 calls-keep s state [] w t = (w, t)
-calls-keep s state (c ∷ calls) w t = calls-keep s (called s state c .received .state) calls (call-whole s state c w) (call-total s state c t)
+calls-keep s state (c ∷ calls) w t = calls-keep s (sinkCalled s state c .received .state) calls (call-whole s state c w) (call-total s state c t)
 
-pub reached-whole : (s : Shape) (calls : List Call) → Whole (reached s calls .monitor)
-unfolding freshState
-reached-whole s calls = calls-keep s freshState calls (whole-blank 0) (omega arith) .0
+pub reached-whole : (s : Shape) (calls : List SinkCall) → Whole (reached s calls .monitor)
+unfolding freshSink
+reached-whole s calls = calls-keep s freshSink calls (whole-blank 0) (omega arith) .0
 
-pub reached-total : (s : Shape) (calls : List Call) → reached s calls .total ≤ 65535
-unfolding freshState
-reached-total s calls = calls-keep s freshState calls (whole-blank 0) (omega arith) .1
+pub reached-total : (s : Shape) (calls : List SinkCall) → reached s calls .total ≤ 65535
+unfolding freshSink
+reached-total s calls = calls-keep s freshSink calls (whole-blank 0) (omega arith) .1
 
 -- ---- a call that nothing is wrong with
 
-pub call-done : (s : Shape) (state : State) (c : Call) → outOfRange s state ≡ false → labelRefused (c .expected .label) ≡ false → traceRefused (c .expected .trace) ≡ false
-    → length (c .unit) ≡ unitLength s → length (c .held) ≡ s .size → length (c .done) ≡ s .size → called s state c .received .answer ≡ Done
+pub call-done : (s : Shape) (state : State) (c : SinkCall) → sinkOutOfRange s state ≡ false → labelRefused (c .expected .label) ≡ false → traceRefused (c .expected .trace) ≡ false
+    → length (c .unit) ≡ unitLength s → length (c .held) ≡ s .size → length (c .done) ≡ s .size → sinkCalled s state c .received .answer ≡ Done
 call-done s state c o l t u h d =
     let both : (not (eqb (length (c .held)) (s .size)) || not (eqb (length (c .done)) (s .size))) ≡ false = simp (eq-eqb (length (c .held)) (s .size) h, eq-eqb (length (c .done)) (s .size) d) in
     answer-is s state c
     ∙ sym (nothing-wrong s state (c .expected .label) (c .expected .trace) (length (c .unit)) (length (c .held)) (length (c .done))
-    (outOfRange s state) refl o (labelRefused (c .expected .label)) refl l (traceRefused (c .expected .trace)) refl t u both)
+    (sinkOutOfRange s state) refl o (labelRefused (c .expected .label)) refl l (traceRefused (c .expected .trace)) refl t u both)
 
 -- it leaves both buffers as long as they were
-module _ (s : Shape) (f : Fit s) (state : State) (c : Call) (d : called s state c .received .answer ≡ Done) where
-  abbrev a : After
+module _ (s : Shape) (f : Fit s) (state : State) (c : SinkCall) (d : sinkCalled s state c .received .answer ≡ Done) where
+  abbrev a : AfterWord
   a = pointed s (state .pointer) (c .unit)
 
   lengths : (b : Bool) → isNormal (a .pointer .state) ≡ b
-      → (length (leaving s state a (c .expected) (c .unit) (c .held) (c .done) .held) ≡ s .size) × (length (leaving s state a (c .expected) (c .unit) (c .held) (c .done) .done) ≡ s .size)
-  unfolding leaving received
+      → (length (unitOutcome s state a (c .expected) (c .unit) (c .held) (c .done) .held) ≡ s .size) × (length (unitOutcome s state a (c .expected) (c .unit) (c .held) (c .done) .done) ≡ s .size)
+  unfolding unitOutcome receivedNormal
   lengths true n =
       let k = beginIn s (a .taken) (offsetOf (a .pointer .state)) (state .held) in
       let r = can s f state c d n in
@@ -119,8 +119,8 @@ module _ (s : Shape) (f : Fit s) (state : State) (c : Call) (d : called s state 
       (held-length s (k .kept) (k .from) (c .unit) (c .held) (c .done) (r .line) (r .sizes), done-length s (k .kept) (k .from) (c .unit) (c .held) (c .done) (r .line) (r .sizes))
   lengths false n = rw n (is-fed s f state c d .held-is, is-fed s f state c d .done-is)
 
-  pub call-held : length (called s state c .held) ≡ s .size
-  call-held = ap (λ (o : Outcome). length (o .held)) (called-is s f state c d) ∙ lengths (isNormal (a .pointer .state)) refl .0
+  pub call-held : length (sinkCalled s state c .held) ≡ s .size
+  call-held = ap (λ (o : ReceivedOutcome). length (o .held)) (called-is s f state c d) ∙ lengths (isNormal (a .pointer .state)) refl .0
 
-  pub call-buffer : length (called s state c .done) ≡ s .size
-  call-buffer = ap (λ (o : Outcome). length (o .done)) (called-is s f state c d) ∙ lengths (isNormal (a .pointer .state)) refl .1
+  pub call-buffer : length (sinkCalled s state c .done) ≡ s .size
+  call-buffer = ap (λ (o : ReceivedOutcome). length (o .done)) (called-is s f state c d) ∙ lengths (isNormal (a .pointer .state)) refl .1

@@ -15,11 +15,11 @@ use Rattle.shape.proofs.Examples.{tu3, tu3-fit}
 use Rattle.container_source.specs.Source as container-source
 use Rattle.overhead.specs.Violations.{keptOf}
 use Rattle.monitor.specs.Seeing.{seenIn}
-use Rattle.near.specs.Near.{Setting, Whole, enough}
-use Rattle.near.proofs.Settles.{Near, near-none, near-settled, near-free, setting}
-use Rattle.together.specs.Together.{boxes, violationsAll, violationsTold}
+use Rattle.settles_monitor.specs.Near.{Setting, Whole, enough}
+use Rattle.settles_monitor.proofs.Settles.{Near, near-none, near-settled, near-free, setting}
+use Rattle.settles_stream.specs.InOrder.{boxes, violationsAll, violationsTold}
 use Rattle.sink.specs.Sink as sink
-use Rattle.reach.proofs.Ranges.{reached-in-range}
+use Rattle.sink_theorems.proofs.Ranges.{reached-in-range}
 use Rattle.settles.specs.Demand.{Run, Path, Making, Reached, Supplied, Good, Settles, Demand, most, eight, Demand3, pathAt, sentAt, fedAt, receivedAt, logOf, unsettled}
 use Rattle.settles.proofs.Kept.{reached-whole, reached-total}
 use Rattle.settles.proofs.Sources as sources
@@ -152,7 +152,7 @@ module _ (s : Shape) (r : Run) (u : Runs s r) (place : ℕ) (g : Setting (r .exp
 
 -- more than every state that calls can reach; the 15 places of the message that is gathered, and the total's sixteen bits, are by their types
 pub record InRange (s : Shape) (m : Making) (r : Run) : Type 0 where
-  pub state-in : sink.outOfRange s (r .state) ≡ false
+  pub state-in : sink.sinkOutOfRange s (r .state) ≡ false
   pub total-low : r .state .total ≤ 65535
   pub whole : Whole (r .state .monitor)
   pub source-in : sources.InRange s (r .source)
@@ -203,7 +203,7 @@ reached-in s m r f h =
       total-low = rw (h .state-is) (reached-total s (h .received));
       whole = rw (h .state-is) (reached-whole s (h .received));
       source-in = rw (h .source-is) (sources.source-low s _ (h .asked) (record { offset-low = omega arith; wait-low = omega arith }));
-      first-in = rw (h .first-is) (sources.made-low s container-source.freshState (h .made) (h .many) (omega arith));
+      first-in = rw (h .first-is) (sources.made-low s container-source.freshContainerSource (h .made) (h .many) (omega arith));
     }
 
 -- for every shape that fits, with no adjustment in the first five units or more

@@ -11,14 +11,14 @@ use Rattle.refusals.specs.declared.Answer.the-variants.{Done}
 use Rattle.shape.specs.Shape.{Fit}
 use Rattle.shape.specs.declared.Shape.{Shape}
 use Rattle.container_source.specs.declared.State.{State}
-use Rattle.sending.specs.Run.{stateAt, outcomeAt, containerAt}
-use Rattle.sending.proofs.Refused.{sendable-source}
-use Rattle.sending.proofs.Payload.{length-sent}
-use Rattle.sending.proofs.Sequence.{place-at}
+use Rattle.container_source_theorems.specs.Run.{stateAt, outcomeAt, containerAt}
+use Rattle.container_source_theorems.proofs.Refused.{sendable-source}
+use Rattle.container_source_theorems.proofs.Payload.{length-sent}
+use Rattle.container_source_theorems.proofs.Sequence.{place-at}
 use Rattle.monitor.specs.Seeing.{seenIn}
 use Rattle.monitor.specs.declared.Expected.{Expected}
-use Rattle.near.specs.Near.{Like}
-use Rattle.near.proofs.Sources.{sent-like, sent-b3, sent-parity}
+use Rattle.settles_monitor.specs.Near.{Like}
+use Rattle.settles_monitor.proofs.Sources.{sent-like, sent-b3, sent-parity}
 use Rattle.settles.specs.Demand.{Making, Given}
 use Rattle.settles.proofs.Sources.{made-low}
 use Rattle.settles.proofs.Watched.{Sent, Chained}

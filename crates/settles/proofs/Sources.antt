@@ -8,21 +8,21 @@ use Rattle.shape.specs.declared.Shape.{Shape}
 use Rattle.shape.proofs.Offsets.{after-low}
 use Rattle.container_source.specs.Source as container-source
 use Rattle.container_source.specs.declared.State as container-source-state
-use Rattle.sending.specs.Run as sending
+use Rattle.container_source_theorems.specs.Run as sending
 use Rattle.unit_source.specs.Source as unit-source
 use Rattle.unit_source.specs.declared.State as unit-source-state
-use Rattle.stream.proofs.Spaced.{wait-stops}
+use Rattle.unit_source_theorems.proofs.Spaced.{wait-stops}
 use Rattle.settles.specs.Demand.{Asked, sourceAfter}
 
 -- ---- the container source
 
-pub made-low : (s : Shape) (first : container-source-state.State) (calls : ℕ → sending.Call) (k : ℕ) → first .place ≤ 15 → sending.stateAt s first calls k .place ≤ 15
-unfolding sending.stateAt container-source.containerSource container-source.stateAfter
+pub made-low : (s : Shape) (first : container-source-state.State) (calls : ℕ → sending.ContainerSourceCall) (k : ℕ) → first .place ≤ 15 → sending.stateAt s first calls k .place ≤ 15
+unfolding sending.stateAt container-source.containerSource container-source.containerSourceAfter
 made-low s first calls zero h = h
 made-low s first calls (suc k) h =
     let state = sending.stateAt s first calls k in
     let c = calls k in
-    outcome-by (λ (o : container-source.Outcome). o .sent .state .place ≤ 15)
+    outcome-by (λ (o : container-source.SentOutcome). o .sent .state .place ≤ 15)
     (container-source.sendFaults s (state .place) (c .given .label) (c .trace) (length (c .payload)) (length (c .lent)) (c .given .violations))
     (omega arith)
     (λ _. made-low s first calls k h)
@@ -35,9 +35,9 @@ pub record InRange (s : Shape) (state : unit-source-state.State) : Type 0 where
 
 asked-low : (s : Shape) (state : unit-source-state.State) (c : Asked) → InRange s state
     → InRange s (unit-source.unitSource s state (c .request) (c .current) (c .next) (c .unit) .made .state)
-unfolding unit-source.unitSource unit-source.stateAfter
+unfolding unit-source.unitSource unit-source.unitSourceAfter
 asked-low s state c h =
-    outcome-by (λ (o : unit-source.Outcome). InRange s (o .made .state))
+    outcome-by (λ (o : unit-source.MadeOutcome). InRange s (o .made .state))
     (unit-source.makeFaults s state (c .request) (length (c .current)) (length (c .next)) (length (c .unit)))
     (record { offset-low = after-low (s .top) (c .request) (state .offset) (h .offset-low); wait-low = wait-stops (c .request) (state .wait) })
     (λ _. h)

@@ -13,38 +13,38 @@ use Rattle.shape.specs.declared.Adjustment.{Adjustment}
 use Rattle.shape.specs.declared.Adjustment.the-variants.{Nothing}
 use Rattle.unit_source.specs.Source as unit-source
 use Rattle.unit_source.specs.Source.{adjusts, wordSent, unitSent}
-use Rattle.stream.specs.Stream as stream
-use Rattle.stream.proofs.Spaced as spaced
-use Rattle.stream.proofs.Words.{word-carried}
-use Rattle.reading.specs.Reading.{restarts}
-use Rattle.reading.specs.declared.Taken.the-variants.{Resync}
-use Rattle.reading.specs.declared.State.the-variants.{Normal}
-use Rattle.pointer.specs.Machine.{isNormal, offsetOf, stepOf}
-use Rattle.pointer.specs.declared.After.{After}
+use Rattle.unit_source_theorems.specs.Stream as stream
+use Rattle.unit_source_theorems.proofs.Spaced as spaced
+use Rattle.unit_source_theorems.proofs.Words.{word-carried}
+use Rattle.pointer_rules.specs.Rules.{restarts}
+use Rattle.pointer_rules.specs.declared.Taken.the-variants.{Resync}
+use Rattle.pointer_rules.specs.declared.State.the-variants.{Normal}
+use Rattle.pointer.specs.Machine.{isNormal, offsetOf, pointerStep}
+use Rattle.pointer.specs.declared.AfterWord.{AfterWord}
 use Rattle.cut.specs.Cut.{cutOf, completedOf, insidePart, endedOf, heldOf}
 use Rattle.cut.specs.declared.Cut.{Cut}
 use Rattle.monitor.specs.declared.Monitor.{Monitor}
-use Rattle.locks.specs.Meant.{meant}
-use Rattle.locks.proofs.Locks.{meant-goes, meant-adjusts}
-use Rattle.near.specs.Near.{Whole}
-use Rattle.together.specs.Together.{boxes, watchedAll, violationsAll, violationsTold}
-use Rattle.together.proofs.Seen.{seen-all, told-all}
-use Rattle.together.proofs.Together.{goes-ended, goes-held, restart-held}
-use Rattle.receiving.specs.Receiving.{Leaving, forgot, fromIn, beginIn, cutIn, received}
-use Rattle.report.specs.Report.{defectsOf, settledOf, totalOf}
+use Rattle.settles_pointer.specs.Meant.{meant}
+use Rattle.settles_pointer.proofs.Locks.{meant-goes, meant-adjusts}
+use Rattle.settles_monitor.specs.Near.{Whole}
+use Rattle.settles_stream.specs.InOrder.{boxes, watchedAll, violationsAll, violationsTold}
+use Rattle.settles_stream.proofs.Seen.{seen-all, told-all}
+use Rattle.settles_stream.proofs.Together.{goes-ended, goes-held, restart-held}
+use Rattle.receiving.specs.Receiving.{UnitOutcome, forgot, fromIn, beginIn, cutIn, receivedNormal}
+use Rattle.unit_end.specs.Report.{defectsOf, settledOf, totalOf}
 use Rattle.sink.specs.Sink as sink
-use Rattle.sink.specs.Sink.{outOfRange, pointed, leaving, told}
+use Rattle.sink.specs.Sink.{sinkOutOfRange, pointed, unitOutcome, told}
 use Rattle.sink.proofs.Refuses.{ranged}
-use Rattle.reach.specs.Reach as reach
-use Rattle.reach.proofs.Ranges.{call-in-range}
-use Rattle.reach.proofs.Handed.{called-is, handed-normal}
-use Rattle.settles.specs.Demand.{Run, Path, sent, feeding, fed, after}
+use Rattle.sink_theorems.specs.Reach as reach
+use Rattle.sink_theorems.proofs.Ranges.{call-in-range}
+use Rattle.sink_theorems.proofs.Handed.{called-is, handed-normal}
+use Rattle.settles.specs.Demand.{Run, Path, sent, feeding, fed, pathAfter}
 use Rattle.settles.proofs.Kept.{call-whole, call-total, call-done, call-held, call-buffer}
 
 -- a path on which both ends can be called
 pub record Ready (s : Shape) (r : Run) (x : Path) : Type 0 where
   pub source-fine : spaced.Fine s (r .box) (x .source)
-  pub state-in : outOfRange s (x .state) ≡ false
+  pub state-in : sinkOutOfRange s (x .state) ≡ false
   pub total-low : x .state .total ≤ 65535
   pub whole : Whole (x .state .monitor)
   pub held-is : length (x .held) ≡ s .size
@@ -67,11 +67,11 @@ module _ (s : Shape) (f : Fit s) (r : Run) (set : Settable r) (x : Path) (a : Ad
 
   -- ---- no call is refused
 
-  pub sent-is : sent s r x a ≡ record { made = record { answer = Done; ended = endedBy a v; state = unit-source.stateAfter s a (x .source .state) }; unit = unit }
+  pub sent-is : sent s r x a ≡ record { made = record { answer = Done; ended = endedBy a v; state = unit-source.unitSourceAfter s a (x .source .state) }; unit = unit }
   sent-is = spaced.call-done s f (r .box) (x .source) a (h .source-fine) late
 
   unit-is : sent s r x a .unit ≡ unit
-  unit-is = ap (λ (o : unit-source.Outcome). o .unit) sent-is
+  unit-is = ap (λ (o : unit-source.MadeOutcome). o .unit) sent-is
 
   pub fed-done : fed s r x a .received .answer ≡ Done
   fed-done =
@@ -80,12 +80,12 @@ module _ (s : Shape) (f : Fit s) (r : Run) (set : Settable r) (x : Path) (a : Ad
 
   -- ---- both ends can be called again
 
-  pub source-after : after s r x a .source ≡ record { state = unit-source.stateAfter s a (x .source .state); number = i + endedBy a v; unit = unit }
-  unfolding after stream.after
+  pub source-after : pathAfter s r x a .source ≡ record { state = unit-source.unitSourceAfter s a (x .source .state); number = i + endedBy a v; unit = unit }
+  unfolding pathAfter stream.sendingAfter
   source-after = rw sent-is
 
-  pub ready-after : Ready s r (after s r x a)
-  unfolding after
+  pub ready-after : Ready s r (pathAfter s r x a)
+  unfolding pathAfter
   ready-after =
       record {
         source-fine = spaced.fine-after s f (r .box) (x .source) a (h .source-fine) late;
@@ -98,48 +98,48 @@ module _ (s : Shape) (f : Fit s) (r : Run) (set : Settable r) (x : Path) (a : Ad
 
   -- ---- what is told at the unit's end
 
-  -- how the word is taken, and the pointer after it
-  abbrev t : After
-  t = stepOf (x .state .pointer) (s .top) (wordSent a v)
+  -- how the word is taken, and the pointer pathAfter it
+  abbrev t : AfterWord
+  t = pointerStep (x .state .pointer) (s .top) (wordSent a v)
 
   pointed-is : pointed s (x .state .pointer) (sent s r x a .unit) ≡ t
   unfolding pointed
   pointed-is = rw (unit-is, word-carried s a v (r .box i) (r .box (i + 1)) f)
 
   -- what the unit leaves
-  abbrev l : Leaving
-  l = leaving s (x .state) t (r .expected) unit (x .held) (x .done)
+  abbrev l : UnitOutcome
+  l = unitOutcome s (x .state) t (r .expected) unit (x .held) (x .done)
 
-  fed-is : fed s r x a ≡ record { received = told (t .pointer) (x .state .total) (l .left) (r .expected) (r .flags); held = l .held; done = l .done }
+  fed-is : fed s r x a ≡ record { received = told (t .pointer) (x .state .total) (l .after) (r .expected) (r .flags); held = l .held; done = l .done }
   fed-is =
       called-is s f (x .state) (feeding s r x a) fed-done
-      ∙ ap₂ (λ (y : After) (u : List ℕ).
-      let z = leaving s (x .state) y (r .expected) u (x .held) (x .done) in
-      record { received = told (y .pointer) (x .state .total) (z .left) (r .expected) (r .flags); held = z .held; done = z .done })
+      ∙ ap₂ (λ (y : AfterWord) (u : List ℕ).
+      let z = unitOutcome s (x .state) y (r .expected) u (x .held) (x .done) in
+      record { received = told (y .pointer) (x .state .total) (z .after) (r .expected) (r .flags); held = z .held; done = z .done })
       pointed-is unit-is
 
-  pub pointer-after : after s r x a .state .pointer ≡ t .pointer
-  unfolding after told
-  pointer-after = ap (λ (o : sink.Outcome). o .received .state .pointer) fed-is
+  pub pointer-after : pathAfter s r x a .state .pointer ≡ t .pointer
+  unfolding pathAfter told
+  pointer-after = ap (λ (o : sink.ReceivedOutcome). o .received .state .pointer) fed-is
 
-  monitor-left : after s r x a .state .monitor ≡ l .left .monitor
-  unfolding after told
-  monitor-left = ap (λ (o : sink.Outcome). o .received .state .monitor) fed-is
+  monitor-left : pathAfter s r x a .state .monitor ≡ l .after .monitor
+  unfolding pathAfter told
+  monitor-left = ap (λ (o : sink.ReceivedOutcome). o .received .state .monitor) fed-is
 
   -- "a unit ends settled if .."
-  pub settled-is : fed s r x a .received .settled ≡ settledOf (isNormal (t .pointer .state)) (after s r x a .state .monitor) (r .expected)
+  pub settled-is : fed s r x a .received .settled ≡ settledOf (isNormal (t .pointer .state)) (pathAfter s r x a .state .monitor) (r .expected)
   unfolding told
   settled-is =
-      ap (λ (o : sink.Outcome). o .received .settled) fed-is ∙ ap (λ (m : Monitor). settledOf (isNormal (t .pointer .state)) m (r .expected)) (sym monitor-left)
+      ap (λ (o : sink.ReceivedOutcome). o .received .settled) fed-is ∙ ap (λ (m : Monitor). settledOf (isNormal (t .pointer .state)) m (r .expected)) (sym monitor-left)
 
-  pub total-after : after s r x a .state .total ≡ totalOf (x .state .total) (fed s r x a .received .settled)
-  unfolding after told
+  pub total-after : pathAfter s r x a .state .total ≡ totalOf (x .state .total) (fed s r x a .received .settled)
+  unfolding pathAfter told
   total-after =
-      ap (λ (o : sink.Outcome). o .received .state .total) fed-is ∙ ap (totalOf (x .state .total)) (sym (ap (λ (o : sink.Outcome). o .received .settled) fed-is))
+      ap (λ (o : sink.ReceivedOutcome). o .received .state .total) fed-is ∙ ap (totalOf (x .state .total)) (sym (ap (λ (o : sink.ReceivedOutcome). o .received .settled) fed-is))
 
-  pub defects-is : fed s r x a .received .defects ≡ defectsOf (after s r x a .state .monitor)
+  pub defects-is : fed s r x a .received .defects ≡ defectsOf (pathAfter s r x a .state .monitor)
   unfolding told
-  defects-is = ap (λ (o : sink.Outcome). o .received .defects) fed-is ∙ ap defectsOf (sym monitor-left)
+  defects-is = ap (λ (o : sink.ReceivedOutcome). o .received .defects) fed-is ∙ ap defectsOf (sym monitor-left)
 
   -- ---- a unit that ends normal
 
@@ -148,31 +148,31 @@ module _ (s : Shape) (f : Fit s) (r : Run) (set : Settable r) (x : Path) (a : Ad
     abbrev k : Cut
     k = cutIn s (t .taken) (offsetOf (t .pointer .state)) (x .state .held)
 
-    left-is : l ≡ received s (t .taken) (offsetOf (t .pointer .state)) (x .state .held) (x .state .monitor) (r .expected) unit (x .held) (x .done)
-    unfolding leaving
+    left-is : l ≡ receivedNormal s (t .taken) (offsetOf (t .pointer .state)) (x .state .held) (x .state .monitor) (r .expected) unit (x .held) (x .done)
+    unfolding unitOutcome
     left-is = rw n
 
-    pub held-after : after s r x a .held ≡ heldOf k unit (x .held)
-    unfolding after received
-    held-after = ap (λ (o : sink.Outcome). o .held) fed-is ∙ ap (λ (y : Leaving). y .held) left-is
+    pub held-after : pathAfter s r x a .held ≡ heldOf k unit (x .held)
+    unfolding pathAfter receivedNormal
+    held-after = ap (λ (o : sink.ReceivedOutcome). o .held) fed-is ∙ ap (λ (y : UnitOutcome). y .held) left-is
 
     -- the monitor has watched what ended, in order
-    pub monitor-after : after s r x a .state .monitor ≡ watchedAll (s .columns) (r .expected) (forgot (t .taken) (x .state .monitor)) (endedOf s k unit (x .held))
-    unfolding received endedOf
+    pub monitor-after : pathAfter s r x a .state .monitor ≡ watchedAll (s .columns) (r .expected) (forgot (t .taken) (x .state .monitor)) (endedOf s k unit (x .held))
+    unfolding receivedNormal endedOf
     monitor-after =
-        monitor-left ∙ ap (λ (y : Leaving). y .left .monitor) left-is ∙ seen-all s k (completedOf s k unit (x .held)) (insidePart s k unit) (forgot (t .taken) (x .state .monitor)) (r .expected)
+        monitor-left ∙ ap (λ (y : UnitOutcome). y .after .monitor) left-is ∙ seen-all s k (completedOf s k unit (x .held)) (insidePart s k unit) (forgot (t .taken) (x .state .monitor)) (r .expected)
 
     pub told-after : violationsTold (fed s r x a .received .ended) ≡ violationsAll (s .columns) (r .expected) (forgot (t .taken) (x .state .monitor)) (endedOf s k unit (x .held))
-    unfolding told received endedOf
+    unfolding told receivedNormal endedOf
     told-after =
-        ap (λ (o : sink.Outcome). violationsTold (o .received .ended)) fed-is
-        ∙ ap (λ (y : Leaving). violationsTold (y .left .ended)) left-is
+        ap (λ (o : sink.ReceivedOutcome). violationsTold (o .received .ended)) fed-is
+        ∙ ap (λ (y : UnitOutcome). violationsTold (y .after .ended)) left-is
         ∙ told-all s k (completedOf s k unit (x .held)) (insidePart s k unit) (forgot (t .taken) (x .state .monitor)) (r .expected)
 
     pub handed-after : reach.handed s (feeding s r x a) (fed s r x a) ≡ endedOf s k unit (x .held)
     handed-after =
-        handed-normal s f (x .state) (feeding s r x a) fed-done (ap (λ (y : After). isNormal (y .pointer .state)) pointed-is ∙ n)
-        ∙ ap₂ (λ (y : After) (u : List ℕ). endedOf s (cutIn s (y .taken) (offsetOf (y .pointer .state)) (x .state .held)) u (x .held)) pointed-is unit-is
+        handed-normal s f (x .state) (feeding s r x a) fed-done (ap (λ (y : AfterWord). isNormal (y .pointer .state)) pointed-is ∙ n)
+        ∙ ap₂ (λ (y : AfterWord) (u : List ℕ). endedOf s (cutIn s (y .taken) (offsetOf (y .pointer .state)) (x .state .held)) u (x .held)) pointed-is unit-is
 
   -- ---- its word taken as it was meant, at the source's offset
 
@@ -194,7 +194,7 @@ module _ (s : Shape) (f : Fit s) (r : Run) (set : Settable r) (x : Path) (a : Ad
     forgot-none = rw (taken-is, meant-goes (s .top) a v)
 
     -- whatever was held, what is held then is what was sent of the current container
-    pub held-goes : take (heldCount s (offsetAfter (s .top) a v)) (after s r x a .held) ≡ take (heldCount s (offsetAfter (s .top) a v)) (r .box (i + endedBy a v))
+    pub held-goes : take (heldCount s (offsetAfter (s .top) a v)) (pathAfter s r x a .held) ≡ take (heldCount s (offsetAfter (s .top) a v)) (r .box (i + endedBy a v))
     held-goes =
         ap (take (heldCount s (offsetAfter (s .top) a v))) (held-after normal ∙ ap (λ (c : Cut). heldOf c unit (x .held)) cut-is)
         ∙ goes-held s f (r .box) (h .source-fine .full) a v i (x .held) (h .source-fine .offset-low)
@@ -209,7 +209,7 @@ module _ (s : Shape) (f : Fit s) (r : Run) (set : Settable r) (x : Path) (a : Ad
       pub handed-goes : reach.handed s (feeding s r x a) (fed s r x a) ≡ boxes (r .box) i (endedBy a v)
       handed-goes = handed-after normal ∙ ended-is
 
-      pub monitor-goes : after s r x a .state .monitor ≡ watchedAll (s .columns) (r .expected) (x .state .monitor) (boxes (r .box) i (endedBy a v))
+      pub monitor-goes : pathAfter s r x a .state .monitor ≡ watchedAll (s .columns) (r .expected) (x .state .monitor) (boxes (r .box) i (endedBy a v))
       monitor-goes = monitor-after normal ∙ ap₂ (λ (m : Monitor) (cs : List (List ℕ)). watchedAll (s .columns) (r .expected) m cs) forgot-none ended-is
 
       pub told-goes : violationsTold (fed s r x a .received .ended) ≡ violationsAll (s .columns) (r .expected) (x .state .monitor) (boxes (r .box) i (endedBy a v))
@@ -218,9 +218,9 @@ module _ (s : Shape) (f : Fit s) (r : Run) (set : Settable r) (x : Path) (a : Ad
 -- ---- a unit with no adjustment, taken by rule 3 at the source's offset
 
 pub held-restarts : (s : Shape) (f : Fit s) (r : Run) (set : Settable r) (x : Path) (h : Ready s r x) (late : (adjusts Nothing && ltb (x .source .state .wait) 3) ≡ false)
-    → stepOf (x .state .pointer) (s .top) (wordSent Nothing (x .source .state .offset)) .taken ≡ Resync (x .source .state .offset)
-    → stepOf (x .state .pointer) (s .top) (wordSent Nothing (x .source .state .offset)) .pointer .state ≡ Normal (x .source .state .offset)
-    → take (heldCount s (x .source .state .offset)) (after s r x Nothing .held) ≡ take (heldCount s (x .source .state .offset)) (r .box (x .source .number + 1))
+    → pointerStep (x .state .pointer) (s .top) (wordSent Nothing (x .source .state .offset)) .taken ≡ Resync (x .source .state .offset)
+    → pointerStep (x .state .pointer) (s .top) (wordSent Nothing (x .source .state .offset)) .pointer .state ≡ Normal (x .source .state .offset)
+    → take (heldCount s (x .source .state .offset)) (pathAfter s r x Nothing .held) ≡ take (heldCount s (x .source .state .offset)) (r .box (x .source .number + 1))
 unfolding beginIn fromIn isNormal offsetOf restarts
 held-restarts s f r set x h late taken-is now =
     let v = x .source .state .offset in

@@ -10,12 +10,12 @@ use lib.ListN.{replicate}
 use Rattle.overhead.specs.declared.Parity.{Parity}
 use Rattle.overhead.specs.Violations.{violationsOf, keptOf}
 use Rattle.monitor.specs.Seeing.{seenIn}
-use Rattle.monitor.specs.Monitoring.{stepOf}
+use Rattle.monitor.specs.Monitoring.{monitorStep}
 use Rattle.monitor.specs.declared.Monitor.{Monitor}
 use Rattle.monitor.specs.declared.Expected.{Expected}
-use Rattle.near.specs.Near.{Setting, Like}
-use Rattle.near.proofs.Settles.{Near, near-step, parity-kept, none-violated}
-use Rattle.together.specs.Together.{boxes, watchedAll, violationsAll}
+use Rattle.settles_monitor.specs.Near.{Setting, Like}
+use Rattle.settles_monitor.proofs.Settles.{Near, near-step, parity-kept, none-violated}
+use Rattle.settles_stream.specs.InOrder.{boxes, watchedAll, violationsAll}
 
 module _ (columns : ℕ) (e : Expected) (box : ℕ → List ℕ) where
   -- container j carries what is expected, and the byte of the message that is then due: the one at `place` in container 0
@@ -36,7 +36,7 @@ module _ (columns : ℕ) (e : Expected) (box : ℕ → List ℕ) where
       let step = rw next at (near-step e ((place + i) % 16) k m (seenIn columns (box i)) g (omega arith) (like i (omega arith)) h) in
       let from : i + suc n ≡ i + 1 + n = omega arith in
       let many : k + suc n ≡ k + 1 + n = omega arith in
-      rw (from, many) (near-all place (i + 1) (k + 1) n (stepOf m (seenIn columns (box i)) e) g (λ j l. like j (omega arith)) step)
+      rw (from, many) (near-all place (i + 1) (k + 1) n (monitorStep m (seenIn columns (box i)) e) g (λ j l. like j (omega arith)) step)
 
   -- the last of them leaves its parity
   pub parity-all : (i n : ℕ) (m : Monitor) → watchedAll columns e m (boxes box i (suc n)) .parity ≡ keptOf (seenIn columns (box (i + n)) .parity)
@@ -44,7 +44,7 @@ module _ (columns : ℕ) (e : Expected) (box : ℕ → List ℕ) where
   parity-all i zero m = rw add-zero (parity-kept m (seenIn columns (box i)) e)
   parity-all i (suc n) m =
       let from : i + suc n ≡ i + 1 + n = omega arith in
-      rw from (parity-all (i + 1) n (stepOf m (seenIn columns (box i)) e))
+      rw from (parity-all (i + 1) n (monitorStep m (seenIn columns (box i)) e))
 
   -- after one of them, the others have no violations
   pub none-violated-all : (i n : ℕ) (m : Monitor) → ((j : ℕ) → i ≤ j → Chained j) → m .parity ≡ keptOf (seenIn columns (box i) .parity)
@@ -55,7 +55,7 @@ module _ (columns : ℕ) (e : Expected) (box : ℕ → List ℕ) where
       let c = seenIn columns (box (suc i)) in
       let now = ap (λ (p : Parity). violationsOf p (c .b3)) h ∙ none-violated (seenIn columns (box i) .parity) (c .b3) (chain i (omega arith)) in
       rw (add-one (suc i))
-      (ap₂ (λ (v : ℕ) (vs : List ℕ). v ∷ vs) now (none-violated-all (suc i) n (stepOf m c e) (λ j l. chain j (omega arith)) (parity-kept m c e)))
+      (ap₂ (λ (v : ℕ) (vs : List ℕ). v ∷ vs) now (none-violated-all (suc i) n (monitorStep m c e) (λ j l. chain j (omega arith)) (parity-kept m c e)))
 
   -- so the parity kept is that of the last container watched, i being its number, through any number of them
   pub parity-on : (number many n : ℕ) (m : Monitor) → ((i : ℕ) → suc i ≡ number → 0 < many → m .parity ≡ keptOf (seenIn columns (box i) .parity))

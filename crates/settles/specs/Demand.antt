@@ -4,7 +4,7 @@
 --   units, and at least three plain units between adjustments later. At most 66 units of that run end unsettled, and the card's own unsettled total rises by exactly their
 --   number, up to its cap. From the 67th unit on, each container that ends is handed back as sent, byte for byte, in order, none lost or doubled, with zero parity violations
 --   and no defect."
--- Units and containers are numbered from 0: unit n comes after n others. A row without end stands for its beginnings, so a run is of every length.
+-- Units and containers are numbered from 0: unit n comes pathAfter n others. A row without end stands for its beginnings, so a run is of every length.
 use mathlib.Core.Path.{_≡_}
 use Prim.Native.Nat.{ℕ, zero, suc, _+_, _≤_, _<_, min}
 use mathlib.Core.Bool.{true, false, cond}
@@ -20,25 +20,25 @@ use Rattle.container.specs.Container.{payloadSize}
 use Rattle.container_source.specs.Source as container-source
 use Rattle.container_source.specs.declared.State as container-source-state
 use Rattle.container_source.specs.declared.Sent.{Sent}
-use Rattle.sending.specs.Run as sending
+use Rattle.container_source_theorems.specs.Run as sending
 use Rattle.unit_source.specs.Source as unit-source
 use Rattle.unit_source.specs.declared.State as unit-source-state
 use Rattle.unit_source.specs.declared.Made.{Made}
-use Rattle.stream.specs.Stream as stream
-use Rattle.together.specs.Together.{boxes, violationsTold}
+use Rattle.unit_source_theorems.specs.Stream as stream
+use Rattle.settles_stream.specs.InOrder.{boxes, violationsTold}
 use Rattle.monitor.specs.declared.Expected.{Expected}
-use Rattle.report.specs.declared.Flags.{Flags}
+use Rattle.unit_end.specs.declared.Flags.{Flags}
 use Rattle.sink.specs.Sink as sink
 use Rattle.sink.specs.declared.State as sink-state
 use Rattle.sink.specs.declared.Received.{Received}
-use Rattle.reach.specs.Reach as reach
+use Rattle.sink_theorems.specs.Reach as reach
 
 -- ---- the run
 
 -- what the container source makes the containers of, from container 1 on: its state as the run begins, and what each call is given
 pub record Making : Type 0 where
   pub first : container-source-state.State
-  pub calls : ℕ → sending.Call
+  pub calls : ℕ → sending.ContainerSourceCall
 
 -- what a run is of: the containers in order and what is asked for each unit, the sink's settings, the unit source and the sink before it, the buffers that are lent
 pub record Run : Type 0 where
@@ -61,32 +61,32 @@ pub record Path : Type 0 where
 
 module _ (s : Shape) (r : Run) where
   -- the unit source is asked for a unit
-  abbrev pub sent : Path → Adjustment → unit-source.Outcome
-  sent x a = stream.called s (r .box) (x .source) a
+  abbrev pub sent : Path → Adjustment → unit-source.MadeOutcome
+  sent x a = stream.unitSourceCalled s (r .box) (x .source) a
 
   -- and the sink is fed it
-  abbrev pub feeding : Path → Adjustment → reach.Call
+  abbrev pub feeding : Path → Adjustment → reach.SinkCall
   feeding x a = record { expected = r .expected; flags = r .flags; unit = sent x a .unit; held = x .held; done = x .done }
 
-  abbrev pub fed : Path → Adjustment → sink.Outcome
-  fed x a = reach.called s (x .state) (feeding x a)
+  abbrev pub fed : Path → Adjustment → sink.ReceivedOutcome
+  fed x a = reach.sinkCalled s (x .state) (feeding x a)
 
   -- "given its containers in order", "buffers kept between calls"
-  unfoldable pub after : Path → Adjustment → Path
-  after x a =
+  unfoldable pub pathAfter : Path → Adjustment → Path
+  pathAfter x a =
       let o = fed x a in
-      record { source = stream.after s (r .box) (x .source) a; state = o .received .state; held = o .held; done = o .done }
+      record { source = stream.sendingAfter s (r .box) (x .source) a; state = o .received .state; held = o .held; done = o .done }
 
   -- the path before unit n
   unfoldable pub pathAt : ℕ → Path
   pathAt zero = record { source = record { state = r .source; number = 0; unit = r .unit }; state = r .state; held = r .held; done = r .done }
-  pathAt (suc n) = after (pathAt n) (r .ask n)
+  pathAt (suc n) = pathAfter (pathAt n) (r .ask n)
 
   -- unit n as it is sent, and what the sink makes of it
-  abbrev pub sentAt : ℕ → unit-source.Outcome
+  abbrev pub sentAt : ℕ → unit-source.MadeOutcome
   sentAt n = sent (pathAt n) (r .ask n)
 
-  abbrev pub fedAt : ℕ → sink.Outcome
+  abbrev pub fedAt : ℕ → sink.ReceivedOutcome
   fedAt n = fed (pathAt n) (r .ask n)
 
   -- the answers
@@ -130,10 +130,10 @@ endedFrom made n (suc m) = made n .ended + endedFrom made (suc n) m
 
 module _ (s : Shape) (r : Run) (path : ℕ → Path) (received : ℕ → Received) where
   -- the call that fed unit n to the sink, and what it left
-  abbrev pub callAt : ℕ → reach.Call
+  abbrev pub callAt : ℕ → reach.SinkCall
   callAt n = record { expected = r .expected; flags = r .flags; unit = path (suc n) .source .unit; held = path n .held; done = path n .done }
 
-  abbrev pub leftAt : ℕ → sink.Outcome
+  abbrev pub leftAt : ℕ → sink.ReceivedOutcome
   leftAt n = record { received = received n; held = path (suc n) .held; done = path (suc n) .done }
 
   -- the containers that it hands back: those of which the answer tells, out of that unit and the done buffer
@@ -160,16 +160,16 @@ sourceAfter s state (c ∷ cs) = sourceAfter s (unit-source.unitSource s state (
 
 -- "in any state that calls can reach", the sink and both sources
 pub record Reached (s : Shape) (m : Making) (r : Run) : Type 0 where
-  pub received : List reach.Call
+  pub received : List reach.SinkCall
   pub state-is : r .state ≡ reach.reached s received
   pub asked : List Asked
-  pub source-is : r .source ≡ sourceAfter s unit-source.freshState asked
-  pub made : ℕ → sending.Call
+  pub source-is : r .source ≡ sourceAfter s unit-source.freshUnitSource asked
+  pub made : ℕ → sending.ContainerSourceCall
   pub many : ℕ
-  pub first-is : m .first ≡ sending.stateAt s container-source.freshState made many
+  pub first-is : m .first ≡ sending.stateAt s container-source.freshContainerSource made many
 
 -- "that sends the label and trace expected and no remote defect": any payload, any other overhead, any violations that can be returned
-pub record Given (s : Shape) (e : Expected) (c : sending.Call) : Type 0 where
+pub record Given (s : Shape) (e : Expected) (c : sending.ContainerSourceCall) : Type 0 where
   pub label-is : c .given .label ≡ e .label
   pub trace-is : c .trace ≡ e .trace
   pub no-remote : c .given .remote ≡ false
@@ -191,7 +191,7 @@ pub record Fine (s : Shape) (r : Run) : Type 0 where
   pub held-is : length (r .held) ≡ s .size
   pub done-is : length (r .done) ≡ s .size
 
--- "one source, given its containers in order": each after container 0 is the one that the container source's next call leaves
+-- "one source, given its containers in order": each pathAfter container 0 is the one that the container source's next call leaves
 abbrev pub Supplied : Shape → Making → Run → Type 0
 Supplied s m r = (k : ℕ) → r .box (suc k) ≡ sending.containerAt s (m .first) (m .calls) k
 
@@ -217,7 +217,7 @@ pub record Settles (within : ℕ) (s : Shape) (r : Run) (g : Log) : Type 0 where
   pub total-is : (n : ℕ) → g .path n .state .total ≡ min (r .state .total + unsettled (g .received) n) 65535
   -- "From the 67th unit on, each container that ends is handed back as sent, byte for byte": those that the source says ended in the unit
   pub back : (n : ℕ) → within ≤ n → handedAt s r (g .path) (g .received) n ≡ boxes (r .box) (g .path n .source .number) (g .made n .ended)
-  -- "in order, none lost or doubled": and so in any units one after the other
+  -- "in order, none lost or doubled": and so in any units one pathAfter the other
   pub in-order : (n units : ℕ) → within ≤ n → handedFrom s r (g .path) (g .received) n units ≡ boxes (r .box) (g .path n .source .number) (endedFrom (g .made) n units)
   -- "with zero parity violations": one 0 for each
   pub no-violations : (n : ℕ) → within ≤ n → violationsTold (g .received n .ended) ≡ replicate (g .made n .ended) 0

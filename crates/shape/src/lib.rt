@@ -21,7 +21,7 @@ pub enum Adjustment {
 }
 
 // AU-4 with its VC-4.
-pub fn au4() -> Shape
+pub fn au4_shape() -> Shape
     ensures { λ r. ⌜ r ≡ au4 ⌝ }
 {
     Shape {

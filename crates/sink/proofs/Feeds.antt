@@ -13,37 +13,37 @@ use Rattle.refusals.specs.declared.Answer.the-variants.{Done, Refused}
 use Rattle.refusals.proofs.Wrong.{outcome-done, outcome-refused, outcome-said}
 use Rattle.shape.specs.Shape.{Fit}
 use Rattle.shape.specs.declared.Shape.{Shape}
-use Rattle.reading.specs.Reading.{restarts, adjustmentOf}
-use Rattle.reading.specs.declared.State as reading
-use Rattle.reading.specs.declared.State.the-variants.{Normal, Alarm, Lost}
+use Rattle.pointer_rules.specs.Rules.{restarts, adjustmentOf}
+use Rattle.pointer_rules.specs.declared.State as reading
+use Rattle.pointer_rules.specs.declared.State.the-variants.{Normal, Alarm, Lost}
 use Rattle.pointer.specs.Machine as pointer
 use Rattle.pointer.specs.declared.Pointer.{Pointer}
-use Rattle.pointer.specs.declared.After.{After}
+use Rattle.pointer.specs.declared.AfterWord.{AfterWord}
 use Rattle.pointer.proofs.Ranges.{offset-low, step-in-range}
 use Rattle.cut.specs.Cut.{Line}
 use Rattle.cut.proofs.Lines.{line-goes, line-restarts}
 use Rattle.monitor.specs.declared.Expected.{Expected}
-use Rattle.receiving.specs.Receiving.{Leaving, beginIn, fromIn, silence, Receivable, Leaves}
-use Rattle.receiving.specs.declared.Left.{Left}
-use Rattle.report.specs.Report.{defectsOf, ssfOf, actionsOf, causesOf, settledOf, totalOf}
-use Rattle.report.specs.declared.Flags.{Flags}
-use Rattle.report.specs.declared.Defects.{Defects}
-use Rattle.report.specs.declared.Actions.{Actions}
-use Rattle.report.specs.declared.Causes.{Causes}
-use Rattle.sink.specs.Sink.{sinkFaults, wordIn, pointed, leaving, told, refusing, Outcome, sink, ReceivesAs, Receives, Fed, Pointed, LeavesAs}
+use Rattle.receiving.specs.Receiving.{UnitOutcome, beginIn, fromIn, silence, Receivable, NormalOutcomeIs}
+use Rattle.receiving.specs.declared.AfterUnit.{AfterUnit}
+use Rattle.unit_end.specs.Report.{defectsOf, ssfOf, actionsOf, causesOf, settledOf, totalOf}
+use Rattle.unit_end.specs.declared.Flags.{Flags}
+use Rattle.unit_end.specs.declared.Defects.{Defects}
+use Rattle.unit_end.specs.declared.Actions.{Actions}
+use Rattle.unit_end.specs.declared.Causes.{Causes}
+use Rattle.sink.specs.Sink.{sinkFaults, wordIn, pointed, unitOutcome, told, refusing, ReceivedOutcome, sink, ReceivesAs, Receives, Fed, Pointed, UnitOutcomeIs}
 use Rattle.sink.specs.declared.State.{State}
 use Rattle.sink.specs.declared.Received.{Received}
 use Rattle.sink.proofs.Refuses.{Ranged, ranged, numbered, fed}
 
 -- ---- the word
 
-pub point-is : (s : Shape) (p : Pointer) (unit : List ℕ) (w : ℕ) (a : After) → w ≡ wordOf (getD unit 0 0) (getD unit (s .step) 0) → a ≡ pointer.stepOf p (s .top) w → a ≡ pointed s p unit
+pub point-is : (s : Shape) (p : Pointer) (unit : List ℕ) (w : ℕ) (a : AfterWord) → w ≡ wordOf (getD unit 0 0) (getD unit (s .step) 0) → a ≡ pointer.pointerStep p (s .top) w → a ≡ pointed s p unit
 unfolding pointed
 point-is s p unit w a h k = rw h at k
 
 -- ---- what the unit's parts ask for
 
-module _ (s : Shape) (state : State) (a : After) (unit held done : List ℕ) (p : Pointed s state a unit held done) where
+module _ (s : Shape) (state : State) (a : AfterWord) (unit held done : List ℕ) (p : Pointed s state a unit held done) where
   in-range : Ranged s state
   in-range = ranged s state (p .fed .fine)
 
@@ -70,16 +70,16 @@ module _ (s : Shape) (state : State) (a : After) (unit held done : List ℕ) (p 
       }
 
   -- what it leaves
-  pub leaves-normal : (e : Expected) (n : Bool) (offset : ℕ) (r : Left) (held′ done′ : List ℕ)
+  pub leaves-normal : (e : Expected) (n : Bool) (offset : ℕ) (r : AfterUnit) (held′ done′ : List ℕ)
       → n ≡ pointer.isNormal (a .pointer .state) → n ≡ true → offset ≡ pointer.offsetOf (a .pointer .state)
-      → Leaves s (a .taken) offset (state .held) (state .monitor) e unit held done r held′ done′
-      → LeavesAs s state a e unit held done r held′ done′
-  unfolding leaving
+      → NormalOutcomeIs s (a .taken) offset (state .held) (state .monitor) e unit held done r held′ done′
+      → UnitOutcomeIs s state a e unit held done r held′ done′
+  unfolding unitOutcome
   leaves-normal e n offset r held′ done′ n-is h o l = rw (← n-is, h, ← o) l
 
-  pub leaves-silence : (e : Expected) (n : Bool) (r : Left) → n ≡ pointer.isNormal (a .pointer .state) → n ≡ false → r ≡ silence
-      → LeavesAs s state a e unit held done r held done
-  unfolding leaving
+  pub leaves-silence : (e : Expected) (n : Bool) (r : AfterUnit) → n ≡ pointer.isNormal (a .pointer .state) → n ≡ false → r ≡ silence
+      → UnitOutcomeIs s state a e unit held done r held done
+  unfolding unitOutcome
   leaves-silence e n r n-is h r-is = rw (← n-is, h, r-is) refl
 
 -- ---- what is told
@@ -96,7 +96,7 @@ ssf-is (Normal v) = refl
 ssf-is Alarm = refl
 ssf-is Lost = refl
 
-pub unit-told : (p : Pointer) (total : ℕ) (left : Left) (e : Expected) (flags : Flags)
+pub unit-told : (p : Pointer) (total : ℕ) (left : AfterUnit) (e : Expected) (flags : Flags)
     (normal alarm settled : Bool) (defects : Defects) (actions : Actions) (causes : Causes) (after : ℕ)
     → normal ≡ pointer.isNormal (p .state) → alarm ≡ pointer.isAlarm (p .state) → defects ≡ defectsOf (left .monitor)
     → settled ≡ settledOf normal (left .monitor) e → after ≡ totalOf total settled
@@ -117,7 +117,7 @@ unit-told p total left e flags normal alarm settled defects actions causes after
     let ssf = ap not n ∙ ssf-is (p .state) in
     rw (k, c, t, s, d, a, lost, ssf, n) refl
 
-pub told-none : (state : State) (x : Refusal) (none : Left) → none ≡ silence
+pub told-none : (state : State) (x : Refusal) (none : AfterUnit) → none ≡ silence
     → record {
       answer = Refused x;
       state = state;
@@ -149,17 +149,17 @@ module _ (s : Shape) (state : State) (e : Expected) (flags : Flags) (unit held d
     pub word-there : Fit s → r ≡ Done → s .step < length unit
     word-there f h = omega (arith, feed-fine h .unit-is, f .some, f .two)
 
-    module _ (h : r ≡ Done) (a : After) (a-is : a ≡ pointed s (state .pointer) unit) where
+    module _ (h : r ≡ Done) (a : AfterWord) (a-is : a ≡ pointed s (state .pointer) unit) where
       pub feed-pointed : Fit s → Pointed s state a unit held done
       feed-pointed f = record { fit = f; fed = feed-fine h; after-is = a-is }
 
-      pub feed-done : (left : Left) (held′ done′ : List ℕ) (q : Received) → LeavesAs s state a e unit held done left held′ done′ → q ≡ told (a .pointer) (state .total) left e flags
+      pub feed-done : (left : AfterUnit) (held′ done′ : List ℕ) (q : Received) → UnitOutcomeIs s state a e unit held done left held′ done′ → q ≡ told (a .pointer) (state .total) left e flags
           → ReceivesAs s state e flags unit held done q held′ done′
       unfolding sink
       feed-done left held′ done′ q l q-is =
-          let left-is = ap (λ (x : Leaving). x .left) l in
-          let held-is = ap (λ (x : Leaving). x .held) l in
-          let done-is = ap (λ (x : Leaving). x .done) l in
+          let left-is = ap (λ (x : UnitOutcome). x .after) l in
+          let held-is = ap (λ (x : UnitOutcome). x .held) l in
+          let done-is = ap (λ (x : UnitOutcome). x .done) l in
           rw (outcome-done (sinkFaults s state (e .label) (e .trace) (length unit) (length held) (length done)) _ _ (sym r-is ∙ h), ← a-is, ← left-is, ← held-is, ← done-is, q-is) refl
 
 -- the answer says the table's number
@@ -169,7 +169,7 @@ unfolding sink told refusing
 feed-said s state e flags unit held done r held′ done′ p =
     let n = numbered s state (e .label) (e .trace) (length unit) (length held) (length done) in
     record {
-      number-is = ap (λ (o : Outcome). answerSays (o .received .answer)) p ∙ outcome-said (λ (o : Outcome). o .received .answer) _ _ _ n refl (λ x. refl);
+      number-is = ap (λ (o : ReceivedOutcome). answerSays (o .received .answer)) p ∙ outcome-said (λ (o : ReceivedOutcome). o .received .answer) _ _ _ n refl (λ x. refl);
       outcome-is = p;
     }
 

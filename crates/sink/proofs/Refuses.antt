@@ -17,22 +17,22 @@ use Rattle.shape.specs.declared.Shape.{Shape}
 use Rattle.pointer.specs.Machine as pointer
 use Rattle.pointer.proofs.Ranges.{offset-low}
 use Rattle.monitor.specs.Monitoring as monitor
-use Rattle.sink.specs.Sink.{heldIn, outOfRange, sinkFaults, Fed}
+use Rattle.sink.specs.Sink.{heldIn, sinkOutOfRange, sinkFaults, Fed}
 use Rattle.sink.specs.declared.State.{State}
 
 -- ---- ranges
 
 -- a state whose numbers are in range
 pub record Ranged (s : Shape) (state : State) : Type 0 where
-  pub pointer-in : pointer.inRange (s .top) (state .pointer) ≡ true
-  pub monitor-in : monitor.inRange (state .monitor) ≡ true
+  pub pointer-in : pointer.pointerInRange (s .top) (state .pointer) ≡ true
+  pub monitor-in : monitor.monitorInRange (state .monitor) ≡ true
   pub held-is : state .held ≡ heldIn s (state .pointer)
 
-pub ranged : (s : Shape) (state : State) → outOfRange s state ≡ false → Ranged s state
-unfolding outOfRange
+pub ranged : (s : Shape) (state : State) → sinkOutOfRange s state ≡ false → Ranged s state
+unfolding sinkOutOfRange
 ranged s state h =
-    let p = pointer.inRange (s .top) (state .pointer) in
-    let m = monitor.inRange (state .monitor) in
+    let p = pointer.pointerInRange (s .top) (state .pointer) in
+    let m = monitor.monitorInRange (state .monitor) in
     let held = eqb (state .held) (heldIn s (state .pointer)) in
     let one = or-false (not p || not m) (not held) h in
     let two = or-false (not p) (not m) (one .0) in
@@ -42,27 +42,27 @@ ranged s state h =
       held-is = eqb-true (state .held) (heldIn s (state .pointer)) (not-false held (one .1));
     }
 
-pub in-range : (s : Shape) (state : State) → Ranged s state → outOfRange s state ≡ false
-unfolding outOfRange
+pub in-range : (s : Shape) (state : State) → Ranged s state → sinkOutOfRange s state ≡ false
+unfolding sinkOutOfRange
 in-range s state r = simp (r .pointer-in, r .monitor-in, eq-eqb (state .held) (heldIn s (state .pointer)) (r .held-is))
 
 -- the three tests of the code
-module _ (s : Shape) (state : State) (a : Bool) (a-is : a ≡ pointer.inRange (s .top) (state .pointer)) where
-  pub out-pointer : not a ≡ true → true ≡ outOfRange s state
-  unfolding outOfRange
+module _ (s : Shape) (state : State) (a : Bool) (a-is : a ≡ pointer.pointerInRange (s .top) (state .pointer)) where
+  pub out-pointer : not a ≡ true → true ≡ sinkOutOfRange s state
+  unfolding sinkOutOfRange
   out-pointer h = rw (← a-is, h) refl
 
-  module _ (h : not a ≡ false) (b : Bool) (b-is : b ≡ monitor.inRange (state .monitor)) where
-    pub out-monitor : not b ≡ true → true ≡ outOfRange s state
-    unfolding outOfRange
+  module _ (h : not a ≡ false) (b : Bool) (b-is : b ≡ monitor.monitorInRange (state .monitor)) where
+    pub out-monitor : not b ≡ true → true ≡ sinkOutOfRange s state
+    unfolding sinkOutOfRange
     out-monitor k = rw (← a-is, h, ← b-is, k) refl
 
     module _ (k : not b ≡ false) (offset : ℕ) (o : offset ≡ pointer.offsetOf (state .pointer .state)) where
       pub low-offset : offset ≤ s .top
       low-offset = rw o (offset-low (s .top) (state .pointer) (sym a-is ∙ not-false a h))
 
-      pub out-held : (count : ℕ) → count ≡ heldCount s offset → not (eqb (state .held) count) ≡ outOfRange s state
-      unfolding outOfRange
+      pub out-held : (count : ℕ) → count ≡ heldCount s offset → not (eqb (state .held) count) ≡ sinkOutOfRange s state
+      unfolding sinkOutOfRange
       out-held count c = rw (c, o, ← a-is, h, ← b-is, k) refl
 
 -- ---- the answer, by the tests that led to it
@@ -71,7 +71,7 @@ module _ (s : Shape) (state : State) (label : ℕ) (trace : List ℕ) (unit held
   abbrev faults : List (Fault Refusal)
   faults = sinkFaults s state label trace unit held done
 
-  module _ (o : Bool) (is-o : o ≡ outOfRange s state) where
+  module _ (o : Bool) (is-o : o ≡ sinkOutOfRange s state) where
     pub wrong-state : o ≡ true → Refused wrong.State ≡ answerOf faults
     unfolding sinkFaults due answerOf
     wrong-state h = rw (← is-o, h) refl
@@ -109,7 +109,7 @@ module _ (s : Shape) (state : State) (label : ℕ) (trace : List ℕ) (unit held
   pub fed : answerOf faults ≡ Done → Fed s state unit held done
   unfolding sinkFaults
   fed d =
-      let p1 = due-none (outOfRange s state) _ _ (none-wrong faults d) in
+      let p1 = due-none (sinkOutOfRange s state) _ _ (none-wrong faults d) in
       let p2 = due-none (labelRefused label) _ _ (p1 .1) in
       let p3 = due-none (traceRefused trace) _ _ (p2 .1) in
       let p4 = due-none (not (eqb unit (unitLength s))) _ _ (p3 .1) in

@@ -1,6 +1,6 @@
 -- The sink: one call, as a function of all that it is given. 01, from "Reading one pointer word" to "Refusal numbers". Each part is a machine of its own:
--- how a word is taken (`reading`), the pointer (`pointer`), the cut of a unit (`cut`), what is watched in a container (`monitor`), what a unit leaves (`receiving`),
--- what is told of it (`report`). Here they are put in order.
+-- how a word is taken (`pointer_rules`), the pointer (`pointer`), the cut of a unit (`cut`), what is watched in a container (`monitor`), what a unit leaves (`receiving`),
+-- what is told of it (`unit_end`). Here they are put in order.
 use mathlib.Core.Path.{_≡_}
 use Prim.Native.Nat.{ℕ}
 use mathlib.Core.Bool.{Bool, false, cond, not, _||_}
@@ -17,22 +17,22 @@ use Rattle.shape.specs.Shape.{Fit, unitLength, heldCount}
 use Rattle.shape.specs.declared.Shape.{Shape}
 use Rattle.pointer.specs.Machine as pointer
 use Rattle.pointer.specs.declared.Pointer.{Pointer}
-use Rattle.pointer.specs.declared.After.{After}
+use Rattle.pointer.specs.declared.AfterWord.{AfterWord}
 use Rattle.monitor.specs.Monitoring as monitor
 use Rattle.monitor.specs.declared.Expected.{Expected}
-use Rattle.receiving.specs.Receiving.{Leaving, received, silence}
-use Rattle.receiving.specs.declared.Left.{Left}
-use Rattle.report.specs.Report.{defectsOf, ssfOf, actionsOf, causesOf, settledOf, totalOf}
-use Rattle.report.specs.declared.Flags.{Flags}
-use Rattle.report.specs.declared.Defects.{Defects}
-use Rattle.report.specs.declared.Actions.{Actions}
-use Rattle.report.specs.declared.Causes.{Causes}
+use Rattle.receiving.specs.Receiving.{UnitOutcome, receivedNormal, silence}
+use Rattle.receiving.specs.declared.AfterUnit.{AfterUnit}
+use Rattle.unit_end.specs.Report.{defectsOf, ssfOf, actionsOf, causesOf, settledOf, totalOf}
+use Rattle.unit_end.specs.declared.Flags.{Flags}
+use Rattle.unit_end.specs.declared.Defects.{Defects}
+use Rattle.unit_end.specs.declared.Actions.{Actions}
+use Rattle.unit_end.specs.declared.Causes.{Causes}
 use Rattle.sink.specs.declared.State.{State}
 use Rattle.sink.specs.declared.Received.{Received}
 
 -- "it starts lost, the wait 3, all else 0 or none"
-unfoldable pub freshState : State
-freshState = record { pointer = pointer.fresh; held = 0; monitor = monitor.blankOf 0; total = 0 }
+unfoldable pub freshSink : State
+freshSink = record { pointer = pointer.freshPointer; held = 0; monitor = monitor.blankOf 0; total = 0 }
 
 -- ---- what is refused
 
@@ -41,16 +41,16 @@ abbrev pub heldIn : Shape → Pointer → ℕ
 heldIn s p = heldCount s (pointer.offsetOf (p .state))
 
 -- "a state number outside its range, or a held count other than the one above"
-unfoldable pub outOfRange : Shape → State → Bool
-outOfRange s state =
-    not (pointer.inRange (s .top) (state .pointer))
-    || not (monitor.inRange (state .monitor))
+unfoldable pub sinkOutOfRange : Shape → State → Bool
+sinkOutOfRange s state =
+    not (pointer.pointerInRange (s .top) (state .pointer))
+    || not (monitor.monitorInRange (state .monitor))
     || not (eqb (state .held) (heldIn s (state .pointer)))
 
 -- what is refused: "Sink: 8, 4, 5, 1, 3". Of unit, held and done the lengths count.
 unfoldable pub sinkFaults : Shape → State → ℕ → List ℕ → ℕ → ℕ → ℕ → List (Fault Refusal)
 sinkFaults s state label trace unit held done =
-    given 8 wrong.State (outOfRange s state)
+    given 8 wrong.State (sinkOutOfRange s state)
     ++ (given 4 wrong.Label (labelRefused label)
     ++ (given 5 wrong.Trace (traceRefused trace)
     ++ (given 1 wrong.Unit (not (eqb unit (unitLength s)))
@@ -63,27 +63,27 @@ abbrev pub wordIn : Shape → List ℕ → ℕ
 wordIn s unit = wordOf (getD unit 0 0) (getD unit (s .step) 0)
 
 -- how its word is taken, and the pointer after it
-unfoldable pub pointed : Shape → Pointer → List ℕ → After
-pointed s p unit = pointer.stepOf p (s .top) (wordIn s unit)
+unfoldable pub pointed : Shape → Pointer → List ℕ → AfterWord
+pointed s p unit = pointer.pointerStep p (s .top) (wordIn s unit)
 
 -- what it leaves, a being the pointer after it: "A unit that ends in alarm or lost has SSF and hands back nothing", and writes nothing
-unfoldable pub leaving : Shape → State → After → Expected → List ℕ → List ℕ → List ℕ → Leaving
-leaving s state a e unit held done =
+unfoldable pub unitOutcome : Shape → State → AfterWord → Expected → List ℕ → List ℕ → List ℕ → UnitOutcome
+unitOutcome s state a e unit held done =
     cond (pointer.isNormal (a .pointer .state))
-    (received s (a .taken) (pointer.offsetOf (a .pointer .state)) (state .held) (state .monitor) e unit held done)
-    (record { left = silence; held = held; done = done })
+    (receivedNormal s (a .taken) (pointer.offsetOf (a .pointer .state)) (state .held) (state .monitor) e unit held done)
+    (record { after = silence; held = held; done = done })
 
 -- "Actions and causes are taken at the unit's end", and so are settled and the total
-unfoldable pub told : Pointer → ℕ → Left → Expected → Flags → Received
-told p total left e flags =
+unfoldable pub told : Pointer → ℕ → AfterUnit → Expected → Flags → Received
+told p total u e flags =
     let alarm = pointer.isAlarm (p .state) in
     let lost = pointer.isLost (p .state) in
-    let defects = defectsOf (left .monitor) in
-    let settled = settledOf (pointer.isNormal (p .state)) (left .monitor) e in
+    let defects = defectsOf (u .monitor) in
+    let settled = settledOf (pointer.isNormal (p .state)) (u .monitor) e in
     record {
       answer = Done;
-      state = record { pointer = p; held = left .held; monitor = left .monitor; total = totalOf total settled };
-      ended = left .ended;
+      state = record { pointer = p; held = u .held; monitor = u .monitor; total = totalOf total settled };
+      ended = u .ended;
       actions = actionsOf (ssfOf alarm lost) defects;
       defects = defects;
       causes = causesOf alarm lost defects flags;
@@ -93,7 +93,7 @@ told p total left e flags =
 -- ---- the call
 
 -- all that it leaves: what is answered, and the bytes of held and done
-pub record Outcome : Type 0 where
+pub record ReceivedOutcome : Type 0 where
   pub received : Received
   pub held : List ℕ
   pub done : List ℕ
@@ -121,18 +121,18 @@ refusing state x =
     }
 
 -- THE SINK. "Nothing lent is written" where it refuses.
-unfoldable pub sink : Shape → State → Expected → Flags → List ℕ → List ℕ → List ℕ → Outcome
+unfoldable pub sink : Shape → State → Expected → Flags → List ℕ → List ℕ → List ℕ → ReceivedOutcome
 sink s state e flags unit held done =
     let a = pointed s (state .pointer) unit in
-    let l = leaving s state a e unit held done in
+    let l = unitOutcome s state a e unit held done in
     outcome (sinkFaults s state (e .label) (e .trace) (length unit) (length held) (length done))
-    (record { received = told (a .pointer) (state .total) (l .left) e flags; held = l .held; done = l .done })
+    (record { received = told (a .pointer) (state .total) (l .after) e flags; held = l .held; done = l .done })
     (λ x. record { received = refusing state x; held = held; done = done })
 
 -- what is answered is the call's, and held and done are left so
 abbrev pub ReceivesAs : Shape → State → Expected → Flags → List ℕ → List ℕ → List ℕ → Received → List ℕ → List ℕ → Type 0
 ReceivesAs s state e flags unit held done r held′ done′ =
-    _≡_ {A = Outcome} (record { received = r; held = held′; done = done′ }) (sink s state e flags unit held done)
+    _≡_ {A = ReceivedOutcome} (record { received = r; held = held′; done = done′ }) (sink s state e flags unit held done)
 
 -- the promise: the answer says the table's number, 0 where nothing is wrong; and all that is answered, with held and done as they were and as they are left
 pub record Receives (s : Shape) (state : State) (e : Expected) (flags : Flags) (unit held done : List ℕ) (r : Received) (held′ done′ : List ℕ) : Type 0 where
@@ -143,16 +143,16 @@ pub record Receives (s : Shape) (state : State) (e : Expected) (flags : Flags) (
 
 -- a call that nothing is wrong with, by its lengths
 pub record Fed (s : Shape) (state : State) (unit held done : ℕ) : Type 0 where
-  pub fine : outOfRange s state ≡ false
+  pub fine : sinkOutOfRange s state ≡ false
   pub unit-is : unit ≡ unitLength s
   pub held-is : held ≡ s .size
   pub done-is : done ≡ s .size
 
 -- one whose word was read
-pub record Pointed (s : Shape) (state : State) (a : After) (unit held done : List ℕ) : Type 0 where
+pub record Pointed (s : Shape) (state : State) (a : AfterWord) (unit held done : List ℕ) : Type 0 where
   pub fit : Fit s
   pub fed : Fed s state (length unit) (length held) (length done)
   pub after-is : a ≡ pointed s (state .pointer) unit
 
-abbrev pub LeavesAs : Shape → State → After → Expected → List ℕ → List ℕ → List ℕ → Left → List ℕ → List ℕ → Type 0
-LeavesAs s state a e unit held done r held′ done′ = _≡_ {A = Leaving} (record { left = r; held = held′; done = done′ }) (leaving s state a e unit held done)
+abbrev pub UnitOutcomeIs : Shape → State → AfterWord → Expected → List ℕ → List ℕ → List ℕ → AfterUnit → List ℕ → List ℕ → Type 0
+UnitOutcomeIs s state a e unit held done r held′ done′ = _≡_ {A = UnitOutcome} (record { after = r; held = held′; done = done′ }) (unitOutcome s state a e unit held done)

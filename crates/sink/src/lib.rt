@@ -5,20 +5,20 @@ ghost use Prim.Native.Nat.{_<_};
 ghost use lib.ListN.{length};
 ghost use Rattle.shape.specs.Shape.{au4, Fit};
 ghost use Rattle.refusals.specs.Refusals.{answerOf};
-ghost use Rattle.sink.specs.Sink.{freshState, outOfRange, sinkFaults, pointed, Pointed, LeavesAs, told, refusing, ReceivesAs, Receives};
+ghost use Rattle.sink.specs.Sink.{freshSink, sinkOutOfRange, sinkFaults, pointed, Pointed, UnitOutcomeIs, told, refusing, ReceivesAs, Receives};
 use monitor::Expected;
 use monitor::Monitor;
-use pointer::After;
+use pointer::AfterWord;
 use pointer::Pointer;
+use receiving::AfterUnit;
 use receiving::Ended;
-use receiving::Left;
 use refusals::Answer;
 use refusals::Refusal;
-use report::Actions;
-use report::Causes;
-use report::Defects;
-use report::Flags;
 use shape::Shape;
+use unit_end::Actions;
+use unit_end::Causes;
+use unit_end::Defects;
+use unit_end::Flags;
 
 // A sink between two units: the pointer, how many bytes are held, what is watched of containers, and the units that ended unsettled since the fresh state.
 pub struct State {
@@ -42,7 +42,7 @@ pub struct Received {
 
 // A sink that has seen nothing.
 pub fn fresh() -> State
-    ensures { λ r. ⌜ r ≡ freshState ⌝ }
+    ensures { λ r. ⌜ r ≡ freshSink ⌝ }
 {
     State {
         pointer: pointer::fresh(),
@@ -54,7 +54,7 @@ pub fn fresh() -> State
 
 fn out_of_range(shape: Shape, s: State) -> bool
     requires { ⌜ Fit shape ⌝ }
-    ensures { λ r. ⌜ r ≡ outOfRange shape s ⌝ }
+    ensures { λ r. ⌜ r ≡ sinkOutOfRange shape s ⌝ }
 {
     let p = s.pointer;
     let m = s.monitor;
@@ -94,7 +94,7 @@ fn answer(shape: Shape, s: State, e: Expected, unit: usize, held: usize, done: u
 }
 
 // The unit's word, read: how it is taken, and the pointer after it.
-fn point(shape: Shape, p: Pointer, unit: &[u8]) -> After
+fn point(shape: Shape, p: Pointer, unit: &[u8]) -> AfterWord
     requires { ⌜ shape .step < length (now unit) ⌝ }
     ensures { λ r. ⌜ r ≡ pointed shape p (now (unit .entry)) ⌝ }
 {
@@ -103,18 +103,18 @@ fn point(shape: Shape, p: Pointer, unit: &[u8]) -> After
     pointer::step(p, shape.top, w)
 }
 
-// What the unit leaves, a being the pointer after it.
-fn leave(
+// What the unit brings, a being the pointer after it.
+fn take_unit(
     shape: Shape,
     s: State,
-    a: After,
+    a: AfterWord,
     e: Expected,
     unit: &[u8],
     held: &mut [u8],
     done: &mut [u8],
-) -> Left
+) -> AfterUnit
     requires { ⌜ Pointed shape s a (now unit) (now held) (now done) ⌝ }
-    ensures { λ r. ⌜ LeavesAs shape s a e (now (unit .entry)) (now (held .entry)) (now (done .entry)) r (now (held .exit)) (now (done .exit)) ⌝ }
+    ensures { λ r. ⌜ UnitOutcomeIs shape s a e (now (unit .entry)) (now (held .entry)) (now (done .entry)) r (now (held .exit)) (now (done .exit)) ⌝ }
 {
     let p = a.pointer;
     let state = p.state;
@@ -133,33 +133,33 @@ fn leave(
             done,
         );
     }
-    receiving::silence()
+    receiving::silent()
 }
 
 // What is told of the unit at its end.
-fn tell(p: Pointer, total: u16, left: Left, e: Expected, flags: Flags) -> Received
-    ensures { λ r. ⌜ r ≡ told p total left e flags ⌝ }
+fn tell(p: Pointer, total: u16, u: AfterUnit, e: Expected, flags: Flags) -> Received
+    ensures { λ r. ⌜ r ≡ told p total u e flags ⌝ }
 {
     let state = p.state;
     let normal = pointer::normal(state);
     let alarm = pointer::alarm(state);
-    let m = left.monitor;
-    let ended = left.ended;
-    let defects = report::defects_of(m);
-    let settled = report::settled(normal, m, e);
+    let m = u.monitor;
+    let ended = u.ended;
+    let defects = unit_end::defects_of(m);
+    let settled = unit_end::settled(normal, m, e);
     let s = State {
         pointer: p,
-        held: left.held,
+        held: u.held,
         monitor: m,
-        total: report::total_after(total, settled),
+        total: unit_end::total_after(total, settled),
     };
     Received {
         answer: Answer::Done,
         state: s,
         ended,
-        actions: report::actions_of(!normal, defects),
+        actions: unit_end::actions_of(!normal, defects),
         defects,
-        causes: report::causes_of(alarm, !normal & !alarm, defects, flags),
+        causes: unit_end::causes_of(alarm, !normal & !alarm, defects, flags),
         settled,
     }
 }
@@ -168,7 +168,7 @@ fn tell(p: Pointer, total: u16, left: Left, e: Expected, flags: Flags) -> Receiv
 fn refuse(s: State, x: Refusal) -> Received
     ensures { λ r. ⌜ r ≡ refusing s x ⌝ }
 {
-    let none = receiving::silence();
+    let none = receiving::silent();
     let ended = none.ended;
     Received {
         answer: Answer::Refused(x),
@@ -220,9 +220,9 @@ fn feed(
     }
     let before = s.pointer;
     let a = point(shape, before, unit);
-    let left = leave(shape, s, a, e, unit, held, done);
+    let u = take_unit(shape, s, a, e, unit, held, done);
     let after = a.pointer;
-    tell(after, s.total, left, e, flags)
+    tell(after, s.total, u, e, flags)
 }
 
 // The next unit of an AU-4. Refuses 8, 4, 5, 1, 3.
@@ -239,5 +239,5 @@ pub fn sink(
 {
     let trace = *characters;
     let e = Expected { label, trace };
-    feed(shape::au4(), s, e, flags, unit, held, done)
+    feed(shape::au4_shape(), s, e, flags, unit, held, done)
 }

@@ -16,13 +16,13 @@ use Rattle.refusals.specs.declared.Answer.the-variants.{Done, Refused}
 use Rattle.shape.specs.Shape.{unitLength, offsetAfter, endedBy}
 use Rattle.shape.specs.declared.Shape.{Shape}
 use Rattle.shape.specs.declared.Adjustment.{Adjustment}
-use Rattle.unit_source.specs.Source.{Ready, adjusts, outOfRange, makeFaults, unitSent, waitAfter, stateAfter, Outcome, unitSource, MakesAs, Makes}
+use Rattle.unit_source.specs.Source.{Ready, adjusts, sourceOutOfRange, makeFaults, unitSent, sourceWaitAfter, unitSourceAfter, MadeOutcome, unitSource, MakesAs, Makes}
 use Rattle.unit_source.specs.declared.State.{State}
 use Rattle.unit_source.specs.declared.Made.{Made}
 
 -- ---- the order of the tests
 
-module _ (s : Shape) (state : State) (a : Adjustment) (current next unit : ℕ) (out : Bool) (out-is : out ≡ outOfRange (s .top) state) where
+module _ (s : Shape) (state : State) (a : Adjustment) (current next unit : ℕ) (out : Bool) (out-is : out ≡ sourceOutOfRange (s .top) state) where
   pub wrong-state : out ≡ true → Refused wrong.State ≡ answerOf (makeFaults s state a current next unit)
   unfolding makeFaults due answerOf
   wrong-state h = rw (← out-is, h) refl
@@ -56,10 +56,10 @@ pub record Makable (s : Shape) (state : State) (a : Adjustment) (current next un
 
 module _ (s : Shape) (state : State) (a : Adjustment) (current next unit : ℕ) where
   pub makable : answerOf (makeFaults s state a current next unit) ≡ Done → Makable s state a current next unit
-  unfolding makeFaults outOfRange
+  unfolding makeFaults sourceOutOfRange
   makable e =
       let w = none-wrong (makeFaults s state a current next unit) e in
-      let p = due-none (outOfRange (s .top) state) _ _ w in
+      let p = due-none (sourceOutOfRange (s .top) state) _ _ w in
       let q = due-none (not (eqb current (s .size)) || not (eqb next (s .size))) _ _ (p .1) in
       let r = due-none (not (eqb unit (unitLength s))) _ _ (q .1) in
       let late = due-false (adjusts a && ltb (state .wait) 3) _ (r .1) in
@@ -78,7 +78,7 @@ module _ (s : Shape) (state : State) (a : Adjustment) (current next unit : ℕ) 
       }
 
   pub not-refused : Makable s state a current next unit → answerOf (makeFaults s state a current next unit) ≡ Done
-  unfolding makeFaults outOfRange due answerOf
+  unfolding makeFaults sourceOutOfRange due answerOf
   not-refused h =
       let r = h .ready in
       let late : (adjusts a && ltb (state .wait) 3) ≡ false = soon (adjusts a) (h .free) in
@@ -93,7 +93,7 @@ module _ (s : Shape) (state : State) (a : Adjustment) (current next unit : ℕ) 
 module _ (s : Shape) (state : State) (a : Adjustment) (current next before : List ℕ) where
   pub source-done : answerOf (makeFaults s state a (length current) (length next) (length before)) ≡ Done
       → unitSource s state a current next before
-      ≡ record { made = record { answer = Done; ended = endedBy a (state .offset); state = stateAfter s a state }; unit = unitSent s a (state .offset) current next }
+      ≡ record { made = record { answer = Done; ended = endedBy a (state .offset); state = unitSourceAfter s a state }; unit = unitSent s a (state .offset) current next }
   unfolding unitSource
   source-done e = outcome-done (makeFaults s state a (length current) (length next) (length before)) _ _ e
 
@@ -111,10 +111,10 @@ module _ (s : Shape) (state : State) (a : Adjustment) (current next before : Lis
   pub made-refused : (x : Refusal) → r ≡ Refused x → MakesAs s state a current next before (record { answer = Refused x; ended = 0; state = state }) before
   made-refused x h = sym (source-refused s state a current next before x (sym r-is ∙ h))
 
-  pub made-done : (ended offset wait : ℕ) (after : List ℕ) → r ≡ Done → ended ≡ endedBy a (state .offset) → offset ≡ offsetAfter (s .top) a (state .offset) → wait ≡ waitAfter a (state .wait)
+  pub made-done : (ended offset wait : ℕ) (after : List ℕ) → r ≡ Done → ended ≡ endedBy a (state .offset) → offset ≡ offsetAfter (s .top) a (state .offset) → wait ≡ sourceWaitAfter a (state .wait)
       → after ≡ unitSent s a (state .offset) current next
       → MakesAs s state a current next before (record { answer = Done; ended = ended; state = record { offset = offset; wait = wait } }) after
-  unfolding stateAfter
+  unfolding unitSourceAfter
   made-done ended offset wait after h e o w u = rw (e, o, w, u) (sym (source-done s state a current next before (sym r-is ∙ h)))
 
 -- each row has its case's number
@@ -128,7 +128,7 @@ unfolding unitSource
 make-said s state a current next before after m h =
     let n = make-numbered s state a (length current) (length next) (length before) in
     record {
-      number-is = ap (λ (o : Outcome). answerSays (o .made .answer)) h ∙ outcome-said (λ (o : Outcome). o .made .answer) _ _ _ n refl (λ x. refl);
+      number-is = ap (λ (o : MadeOutcome). answerSays (o .made .answer)) h ∙ outcome-said (λ (o : MadeOutcome). o .made .answer) _ _ _ n refl (λ x. refl);
       outcome-is = h;
     }
 

@@ -20,8 +20,8 @@ use Rattle.unit_source.specs.declared.State.{State}
 use Rattle.unit_source.specs.declared.Made.{Made}
 
 -- "Fresh, it stands at offset 0, free to adjust"
-abbrev pub freshState : State
-freshState = record { offset = 0; wait = 3 }
+abbrev pub freshUnitSource : State
+freshUnitSource = record { offset = 0; wait = 3 }
 
 -- an adjustment is asked for
 unfoldable pub adjusts : Adjustment → Bool
@@ -32,13 +32,13 @@ adjusts Decrement = true
 -- ---- what is refused
 
 -- "a state number outside its range": the offset is a pointer value, and the wait stops at 3
-unfoldable pub outOfRange : ℕ → State → Bool
-outOfRange top state = ltb top (state .offset) || ltb 3 (state .wait)
+unfoldable pub sourceOutOfRange : ℕ → State → Bool
+sourceOutOfRange top state = ltb top (state .offset) || ltb 3 (state .wait)
 
 -- what is refused: "Unit source: 8, 3, 1, 7". Of the containers and the unit the lengths count; 7 is "adjustment asked with fewer than three units since the last"
 unfoldable pub makeFaults : Shape → State → Adjustment → ℕ → ℕ → ℕ → List (Fault Refusal)
 makeFaults s state a current next unit =
-    given 8 wrong.State (outOfRange (s .top) state)
+    given 8 wrong.State (sourceOutOfRange (s .top) state)
     ++ (given 3 wrong.Container (not (eqb current (s .size)) || not (eqb next (s .size)))
     ++ (given 1 wrong.Unit (not (eqb unit (unitLength s)))
     ++ given 7 wrong.Adjustment (adjusts a && ltb (state .wait) 3)))
@@ -60,32 +60,32 @@ unitSent s a offset current next =
 -- ---- the state after it
 
 -- units since the last adjustment, as far as 3
-unfoldable pub waitAfter : Adjustment → ℕ → ℕ
-waitAfter Nothing wait = more wait 3
-waitAfter Increment wait = 0
-waitAfter Decrement wait = 0
+unfoldable pub sourceWaitAfter : Adjustment → ℕ → ℕ
+sourceWaitAfter Nothing wait = more wait 3
+sourceWaitAfter Increment wait = 0
+sourceWaitAfter Decrement wait = 0
 
-unfoldable pub stateAfter : Shape → Adjustment → State → State
-stateAfter s a state = record { offset = offsetAfter (s .top) a (state .offset); wait = waitAfter a (state .wait) }
+unfoldable pub unitSourceAfter : Shape → Adjustment → State → State
+unitSourceAfter s a state = record { offset = offsetAfter (s .top) a (state .offset); wait = sourceWaitAfter a (state .wait) }
 
 -- ---- the call
 
 -- all that it leaves: the answer with the count and the state, and the unit's bytes
-pub record Outcome : Type 0 where
+pub record MadeOutcome : Type 0 where
   pub made : Made
   pub unit : List ℕ
 
 -- THE UNIT SOURCE. "It takes the current container and the next, and says how many of them ended." "A refusal returns its number and the old state.
 -- Nothing lent is written": a refused call is no unit, and none ended in it.
-unfoldable pub unitSource : Shape → State → Adjustment → List ℕ → List ℕ → List ℕ → Outcome
+unfoldable pub unitSource : Shape → State → Adjustment → List ℕ → List ℕ → List ℕ → MadeOutcome
 unitSource s state a current next before =
     outcome (makeFaults s state a (length current) (length next) (length before))
-    (record { made = record { answer = Done; ended = endedBy a (state .offset); state = stateAfter s a state }; unit = unitSent s a (state .offset) current next })
+    (record { made = record { answer = Done; ended = endedBy a (state .offset); state = unitSourceAfter s a state }; unit = unitSent s a (state .offset) current next })
     (λ x. record { made = record { answer = Refused x; ended = 0; state = state }; unit = before })
 
 -- what is answered is the call's, and the unit is left so
 abbrev pub MakesAs : Shape → State → Adjustment → List ℕ → List ℕ → List ℕ → Made → List ℕ → Type 0
-MakesAs s state a current next before r after = _≡_ {A = Outcome} (record { made = r; unit = after }) (unitSource s state a current next before)
+MakesAs s state a current next before r after = _≡_ {A = MadeOutcome} (record { made = r; unit = after }) (unitSource s state a current next before)
 
 -- the promise: the answer says the table's number, 0 where nothing is wrong; and the unit as it was and as it is left
 pub record Makes (s : Shape) (state : State) (a : Adjustment) (current next before : List ℕ) (r : Made) (after : List ℕ) : Type 0 where

@@ -1,10 +1,10 @@
 // The unit source: units made out of containers, with the pointer written and adjusted. The definitions stand in specs/Source.antt.
-// The theorems about what it sends are in the crate `stream`.
+// The theorems about what it sends are in the crate `unit_source_theorems`.
 ghost use mathlib.Core.Path.{_≡_};
 ghost use lib.ListN.{length};
 ghost use Rattle.shape.specs.Shape.{au4, Fit};
 ghost use Rattle.refusals.specs.Refusals.{answerOf};
-ghost use Rattle.unit_source.specs.Source.{freshState, adjusts, outOfRange, makeFaults, wordSent, unitSent, waitAfter, MakesAs, Makes, Ready};
+ghost use Rattle.unit_source.specs.Source.{freshUnitSource, adjusts, sourceOutOfRange, makeFaults, wordSent, unitSent, sourceWaitAfter, MakesAs, Makes, Ready};
 use refusals::Answer;
 use refusals::Refusal;
 use shape::Adjustment;
@@ -25,12 +25,12 @@ pub struct Made {
 
 // A source that has sent nothing: at offset 0, free to adjust.
 pub fn fresh() -> State
-    ensures { λ r. ⌜ r ≡ freshState ⌝ }
+    ensures { λ r. ⌜ r ≡ freshUnitSource ⌝ }
 {
     State { offset: 0, wait: 3 }
 }
 
-fn adjusts(a: Adjustment) -> bool
+fn is_adjustment(a: Adjustment) -> bool
     ensures { λ r. ⌜ r ≡ adjusts a ⌝ }
 {
     match a {
@@ -41,7 +41,7 @@ fn adjusts(a: Adjustment) -> bool
 }
 
 fn out_of_range(top: u16, s: State) -> bool
-    ensures { λ r. ⌜ r ≡ outOfRange top s ⌝ }
+    ensures { λ r. ⌜ r ≡ sourceOutOfRange top s ⌝ }
 {
     (top < s.offset) | (3 < s.wait)
 }
@@ -60,7 +60,7 @@ fn answer(shape: Shape, s: State, a: Adjustment, current: usize, next: usize, un
     if unit != 3 * shape.step + shape.size {
         return Answer::Refused(Refusal::Unit);
     }
-    if adjusts(a) & (s.wait < 3) {
+    if is_adjustment(a) & (s.wait < 3) {
         return Answer::Refused(Refusal::Adjustment);
     }
     Answer::Done
@@ -89,7 +89,7 @@ fn write(shape: Shape, a: Adjustment, offset: u16, current: &[u8], next: &[u8], 
 }
 
 fn wait_after(a: Adjustment, wait: u8) -> u8
-    ensures { λ r. ⌜ r ≡ waitAfter a wait ⌝ }
+    ensures { λ r. ⌜ r ≡ sourceWaitAfter a wait ⌝ }
 {
     match a {
         Adjustment::Nothing => counts::one_more(wait, 3),
@@ -130,5 +130,5 @@ fn make(shape: Shape, s: State, a: Adjustment, current: &[u8], next: &[u8], unit
 pub fn unit_source(s: State, a: Adjustment, current: &[u8], next: &[u8], unit: &mut [u8]) -> Made
     ensures { λ r. ⌜ Makes au4 s a (now (current .entry)) (now (next .entry)) (now (unit .entry)) r (now (unit .exit)) ⌝ }
 {
-    make(shape::au4(), s, a, current, next, unit)
+    make(shape::au4_shape(), s, a, current, next, unit)
 }

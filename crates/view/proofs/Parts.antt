@@ -10,7 +10,7 @@ use lib.Seq.{take-all}
 use borrow.Author.Tests.{le-leb, lt-leb, ne-eqb}
 use Rattle.cut.specs.Cut.{oneIf}
 use Rattle.receiving.specs.declared.Ended.{Ended}
-use Rattle.view.specs.View.{partOf, firstOf, inOrder, containerOf, Views}
+use Rattle.view.specs.View.{partOf, firstHanded, inOrder, containerHanded, Views}
 
 -- ---- no bytes
 
@@ -90,9 +90,9 @@ module _ (e : Ended) (first second : List ℕ) (k : ℕ) where
 
 -- of the view's two, so: the containers that the unit hands back
 pub handed-seen : (e : Ended) (size : ℕ) (done unit first second : List ℕ) (k : ℕ) → Views e size done unit first second
-    → getD (inOrder e first second) k [] ≡ containerOf e size done unit k
+    → getD (inOrder e first second) k [] ≡ containerHanded e size done unit k
 handed-seen e size done unit first second k v =
-    ap (λ (x : List ℕ). getD (inOrder e x second) k []) (v .first-is) ∙ ap (λ (x : List ℕ). getD (inOrder e (firstOf e size done) x) k []) (v .second-is)
+    ap (λ (x : List ℕ). getD (inOrder e x second) k []) (v .first-is) ∙ ap (λ (x : List ℕ). getD (inOrder e (firstHanded e size done) x) k []) (v .second-is)
 
 -- ---- the promise
 

@@ -3,7 +3,7 @@
 ghost use mathlib.Core.Path.{_≡_};
 ghost use mathlib.Core.List.{[]};
 ghost use lib.ListN.{getD};
-ghost use Rattle.view.specs.View.{partOf, inOrder, containerOf, Views};
+ghost use Rattle.view.specs.View.{partOf, inOrder, containerHanded, Views};
 use receiving::Ended;
 
 // The container that was completed in the done buffer, and then the one that is a part of the unit itself; empty where there is none.
@@ -62,7 +62,7 @@ pub fn container<'a>(
     unit: &'a [u8],
     k: usize,
 ) -> &'a [u8]
-    ensures { λ r. ⌜ now r ≡ containerOf ended size (now (done .entry)) (now (unit .entry)) k ⌝ }
+    ensures { λ r. ⌜ now r ≡ containerHanded ended size (now (done .entry)) (now (unit .entry)) k ⌝ }
 {
     let view = of(ended, size, done, unit);
     nth(ended, k, view.first, view.second)

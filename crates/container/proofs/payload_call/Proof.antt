@@ -5,8 +5,8 @@ use borrow.Author.Needs.{needs}
 use Rattle.container.proofs.payload_call.Statement.{statement}
 use Rattle.container.proofs.payload_call.Tie as tie
 
-au4-requires : tie.Need-au4-requires
-au4-requires c κs = search needs
+au4-shape-requires : tie.Need-au4-shape-requires
+au4-shape-requires c κs = search needs
 
 hand-requires : tie.Need-hand-requires
 hand-requires c κs = search au4-fits
@@ -18,4 +18,4 @@ returns : tie.Need-returns
 returns c = search hand-as
 
 pub payload-call-spec : {M : Type 1} → statement M
-payload-call-spec = tie.close (tie.spec au4-requires hand-requires same-length returns)
+payload-call-spec = tie.close (tie.spec au4-shape-requires hand-requires same-length returns)

@@ -5,8 +5,8 @@ use borrow.Author.Needs.{needs}
 use Rattle.container_source.proofs.container_source.Statement.{statement}
 use Rattle.container_source.proofs.container_source.Tie as tie
 
-au4-requires : tie.Need-au4-requires
-au4-requires c κs = search needs
+au4-shape-requires : tie.Need-au4-shape-requires
+au4-shape-requires c κs = search needs
 
 send-requires : tie.Need-send-requires
 send-requires c κs = search au4-fits
@@ -18,4 +18,4 @@ returns : tie.Need-returns
 returns c = search send-as
 
 pub container-source-spec : {M : Type 1} → statement M
-container-source-spec = tie.close (tie.spec au4-requires send-requires same-length returns)
+container-source-spec = tie.close (tie.spec au4-shape-requires send-requires same-length returns)

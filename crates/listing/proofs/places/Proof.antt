@@ -3,7 +3,7 @@ use mathlib.Core.Path.{_≡_, refl}
 use mathlib.Core.Logic.{⊎-elim}
 use mathlib.Core.List.{[], _∷_}
 use borrow.Author.Needs.{needs}
-use Rattle.records.specs.Refusals.{placesOf}
+use Rattle.records.specs.Refusals.{cataloguePlaces}
 use Rattle.listing.proofs.Refusing.{of-length, of-not-listed, of-one, of-repeated, places-none, places-one, places-two}
 use Rattle.listing.proofs.places.Statement.{statement}
 use Rattle.listing.proofs.places.Tie as tie
@@ -41,8 +41,8 @@ enum-told-2 c = search needs
 place-requires-3 : tie.Need-place-requires-3
 place-requires-3 c κs = search needs
 
-one : (c : tie.At-match-came) → placesOf (c .before .before .args .x) ≡ c .match .p ∷ []
-unfolding placesOf
+one : (c : tie.At-match-came) → cataloguePlaces (c .before .before .args .x) ≡ c .match .p ∷ []
+unfolding cataloguePlaces
 one c =
     ⊎-elim (λ w. of-one (w .1 .given .1) refl (w .3))
     (⊎-elim (λ w. of-one (w .1 .given .1) refl (w .3))

@@ -1,6 +1,6 @@
 -- `monitor::step` meets its contract: each part steps. Assumes nothing.
 use Rattle.overhead.specs.Violations.{keptOf}
-use Rattle.monitor.specs.Monitoring.{stepOf, seenOf}
+use Rattle.monitor.specs.Monitoring.{monitorStep, seenOf}
 use borrow.Author.Needs.{needs}
 use Rattle.monitor.proofs.step.Statement.{statement}
 use Rattle.monitor.proofs.step.Tie as tie
@@ -27,7 +27,7 @@ returned-requires : tie.Need-returned-requires
 returned-requires c κs = search needs
 
 returns : tie.Need-returns
-unfolding seenOf stepOf keptOf
+unfolding seenOf monitorStep keptOf
 returns c =
     let t = c .before in
     let r = t .before in

@@ -1,5 +1,5 @@
--- `pointer::fresh` meets its contract: it is the definition. Assumes nothing.
-use Rattle.pointer.specs.Machine.{fresh}
+-- `pointer::freshPointer` meets its contract: it is the definition. Assumes nothing.
+use Rattle.pointer.specs.Machine.{freshPointer}
 use borrow.Author.Needs.{needs}
 use Rattle.pointer.proofs.fresh.Statement.{statement}
 use Rattle.pointer.proofs.fresh.Tie as tie
@@ -8,7 +8,7 @@ no-rows-requires : tie.Need-no-rows-requires
 no-rows-requires c κs = search needs
 
 returns : tie.Need-returns
-unfolding fresh
+unfolding freshPointer
 returns c = simp (c .no-rows .ensures)
 
 pub fresh-spec : {M : Type 1} → statement M

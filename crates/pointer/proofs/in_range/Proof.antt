@@ -1,5 +1,5 @@
 -- `pointer::in_range` meets its contract: it is the definition. Assumes nothing.
-use Rattle.pointer.specs.Machine.{inRange}
+use Rattle.pointer.specs.Machine.{pointerInRange}
 use borrow.Author.Needs.{needs}
 use Rattle.pointer.proofs.in_range.Statement.{statement}
 use Rattle.pointer.proofs.in_range.Tie as tie
@@ -8,7 +8,7 @@ is-placed-requires : tie.Need-is-placed-requires
 is-placed-requires c κs = search needs
 
 returns : tie.Need-returns
-unfolding inRange
+unfolding pointerInRange
 returns c = simp (c .before .before .before .before .before .before .is-placed .ensures)
 
 pub in-range-spec : {M : Type 1} → statement M

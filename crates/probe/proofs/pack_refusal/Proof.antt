@@ -1,5 +1,5 @@
 -- `probe::pack_refusal` meets its contract: for each refusal, its number and its places. Assumes nothing.
-use Rattle.records.specs.Refusals.{placesOf}
+use Rattle.records.specs.Refusals.{cataloguePlaces}
 use Rattle.probe.specs.Probe.{packed}
 use borrow.Author.Needs.{needs}
 use Rattle.probe.proofs.pack_refusal.Statement.{statement}
@@ -57,35 +57,35 @@ pack-requires-8 : tie.Need-pack-requires-8
 pack-requires-8 c κs = search needs
 
 returns : tie.Need-returns
-unfolding packed placesOf
+unfolding packed cataloguePlaces
 returns c = simp (c .pack .ensures, c .before .before .before .number .ensures, c .before .enum-told .given .1)
 
 returns-2 : tie.Need-returns-2
-unfolding packed placesOf
+unfolding packed cataloguePlaces
 returns-2 c = simp (c .pack2 .ensures, c .before .before .before .before .number .ensures, c .before .before .x .given .1)
 
 returns-3 : tie.Need-returns-3
-unfolding packed placesOf
+unfolding packed cataloguePlaces
 returns-3 c = simp (c .pack3 .ensures, c .before .before .before .before .number .ensures, c .before .before .x2 .given .1)
 
 returns-4 : tie.Need-returns-4
-unfolding packed placesOf
+unfolding packed cataloguePlaces
 returns-4 c = simp (c .pack4 .ensures, c .before .before .before .before .number .ensures, c .before .before .x3 .given .1)
 
 returns-5 : tie.Need-returns-5
-unfolding packed placesOf
+unfolding packed cataloguePlaces
 returns-5 c = simp (c .pack5 .ensures, c .before .before .before .before .number .ensures, c .before .before .x4 .given .1)
 
 returns-6 : tie.Need-returns-6
-unfolding packed placesOf
+unfolding packed cataloguePlaces
 returns-6 c = simp (c .pack6 .ensures, c .before .before .before .before .number .ensures, c .before .before .x5 .given .1)
 
 returns-7 : tie.Need-returns-7
-unfolding packed placesOf
+unfolding packed cataloguePlaces
 returns-7 c = simp (c .pack7 .ensures, c .before .before .before .before .number .ensures, c .before .before .x6 .given .1)
 
 returns-8 : tie.Need-returns-8
-unfolding packed placesOf
+unfolding packed cataloguePlaces
 returns-8 c = simp (c .pack8 .ensures, c .before .before .before .number .ensures, c .before .enum-told2 .given .1)
 
 pub pack-refusal-spec : {M : Type 1} → statement M

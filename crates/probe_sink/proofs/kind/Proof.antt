@@ -1,5 +1,5 @@
 -- `probe_sink::kind` meets its contract: an answer for each case. Assumes nothing.
-use Rattle.probe_sink.specs.Probe.{kindOf}
+use Rattle.probe_sink.specs.Probe.{stateKind}
 use Rattle.laws.proofs.Tests.{tests}
 use borrow.Author.Needs.{needs}
 use Rattle.probe_sink.proofs.kind.Statement.{statement}
@@ -15,15 +15,15 @@ enum-told-3 : tie.Need-enum-told-3
 enum-told-3 c = search needs
 
 returns : tie.Need-returns
-unfolding kindOf
+unfolding stateKind
 returns c = search tests
 
 returns-2 : tie.Need-returns-2
-unfolding kindOf
+unfolding stateKind
 returns-2 c = search tests
 
 returns-3 : tie.Need-returns-3
-unfolding kindOf
+unfolding stateKind
 returns-3 c = search tests
 
 pub kind-spec : {M : Type 1} → statement M

@@ -5,8 +5,8 @@ use Rattle.probe_sink.proofs.Written.{hands-none, hands-all}
 use Rattle.probe_sink.proofs.probe_handed.Statement.{statement}
 use Rattle.probe_sink.proofs.probe_handed.Tie as tie
 
-au4-requires : tie.Need-au4-requires
-au4-requires c κs = search needs
+au4-shape-requires : tie.Need-au4-shape-requires
+au4-shape-requires c κs = search needs
 
 container-requires : tie.Need-container-requires
 container-requires c κs = search needs
@@ -15,7 +15,7 @@ returns : tie.Need-returns
 returns c =
     let given = c .before in
     let s = given .before .before .before .before .before in
-    hands-none (given .before .au4 .result) (s .args .ended) (now (s .args .unit)) (now (s .args .done)) (s .args .k) (now (given .container .result)) (given .before .au4 .ensures) (given .container .ensures) (now (s .args .out)) (c .if1 .taken)
+    hands-none (given .before .au4-shape .result) (s .args .ended) (now (s .args .unit)) (now (s .args .done)) (s .args .k) (now (given .container .result)) (given .before .au4-shape .ensures) (given .container .ensures) (now (s .args .out)) (c .if1 .taken)
 
 copy-at-requires : tie.Need-copy-at-requires
 copy-at-requires c κs = search needs
@@ -28,9 +28,9 @@ returns-2 c =
     let room = c .before .before .before .before in
     let given = room .before in
     let s = given .before .before .before .before .before in
-    hands-all (given .before .au4 .result) (s .args .ended) (now (s .args .unit)) (now (s .args .done)) (s .args .k) (now (given .container .result)) (given .before .au4 .ensures) (given .container .ensures) (now (s .args .out)) (c .before .before .copy-at .last .1 .0) (room .if1 .left) (c .before .before .copy-at .ensures)
+    hands-all (given .before .au4-shape .result) (s .args .ended) (now (s .args .unit)) (now (s .args .done)) (s .args .k) (now (given .container .result)) (given .before .au4-shape .ensures) (given .container .ensures) (now (s .args .out)) (c .before .before .copy-at .last .1 .0) (room .if1 .left) (c .before .before .copy-at .ensures)
 
 pub probe-handed-spec : {M : Type 1} → statement M
 probe-handed-spec =
     tie.close
-    (tie.spec au4-requires container-requires returns copy-at-requires same-length returns-2)
+    (tie.spec au4-shape-requires container-requires returns copy-at-requires same-length returns-2)

@@ -4,8 +4,8 @@ use borrow.Author.Needs.{needs}
 use Rattle.receiving.proofs.forget.Statement.{statement}
 use Rattle.receiving.proofs.forget.Tie as tie
 
-restarts-requires : tie.Need-restarts-requires
-restarts-requires c κs = search needs
+is-restart-requires : tie.Need-is-restart-requires
+is-restart-requires c κs = search needs
 
 returns : tie.Need-returns
 returns c = search forgot-restart
@@ -14,4 +14,4 @@ returns-2 : tie.Need-returns-2
 returns-2 c = search forgot-nothing
 
 pub forget-spec : {M : Type 1} → statement M
-forget-spec = tie.close (tie.spec restarts-requires returns returns-2)
+forget-spec = tie.close (tie.spec is-restart-requires returns returns-2)

@@ -4,8 +4,8 @@ use borrow.Author.Needs.{needs}
 use Rattle.receiving.proofs.goes_on.Statement.{statement}
 use Rattle.receiving.proofs.goes_on.Tie as tie
 
-restarts-requires : tie.Need-restarts-requires
-restarts-requires c κs = search needs
+is-restart-requires : tie.Need-is-restart-requires
+is-restart-requires c κs = search needs
 
 adjustment-of-requires : tie.Need-adjustment-of-requires
 adjustment-of-requires c κs = search needs
@@ -22,4 +22,4 @@ returns c = search begins
 pub goes-on-spec : {M : Type 1} → statement M
 goes-on-spec =
     tie.close
-    (tie.spec restarts-requires adjustment-of-requires pick-requires from-requires returns)
+    (tie.spec is-restart-requires adjustment-of-requires pick-requires from-requires returns)

@@ -32,8 +32,8 @@ loop-less c = omega arith
 loop-again : tie.Need-loop-again Inv-loop μ-loop
 loop-again c = (omega arith, search turns-on)
 
-leave-requires : tie.Need-leave-requires Inv-loop μ-loop
-leave-requires c κs = search needs
+after-unit-requires : tie.Need-after-unit-requires Inv-loop μ-loop
+after-unit-requires c κs = search needs
 
 returns : tie.Need-returns Inv-loop μ-loop
 returns c = search turns-taken fits 20000
@@ -50,5 +50,5 @@ take-both-spec =
     add-k
     loop-less
     loop-again
-    leave-requires
+    after-unit-requires
     returns)

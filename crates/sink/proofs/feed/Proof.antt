@@ -22,8 +22,8 @@ enum-told c = search needs
 point-requires : tie.Need-point-requires
 point-requires c κs = search word-there
 
-leave-requires : tie.Need-leave-requires
-leave-requires c κs = search feed-pointed
+take-unit-requires : tie.Need-take-unit-requires
+take-unit-requires c κs = search feed-pointed
 
 tell-requires : tie.Need-tell-requires
 tell-requires c κs = search needs
@@ -37,7 +37,7 @@ same-length-2 c = search needs
 returns-2 : tie.Need-returns-2
 returns-2 c =
     let a = c .before .before .before .before .before .before .before .before .before .before .before .before .before .before .before .before .before .args in
-    let l = c .before .before .before .before .before .before .leave in
+    let l = c .before .before .before .before .before .before .take-unit in
     feed-done (a .shape) (a .s) (a .e) (a .flags) (a .unit .now) (a .held .now) (a .done .now) (c .before .before .before .before .before .before .before .before .before .before .before .before .before .answer .result) (c .before .before .before .before .before .before .before .before .before .before .before .before .before .answer .ensures) (c .before .before .before .before .before .before .before .before .before .before .before .enum-told .given .1)
     (c .before .before .before .before .before .before .before .before .before .point .result) (c .before .before .before .before .before .before .before .before .before .point .ensures) (l .result) (l .last .1 .1 .1 .1 .1 .0) (l .last .1 .1 .1 .1 .1 .1 .0) (c .tell .result) (l .ensures) (c .tell .ensures)
 
@@ -51,7 +51,7 @@ feed-spec =
     returns
     enum-told
     point-requires
-    leave-requires
+    take-unit-requires
     tell-requires
     same-length
     same-length-2

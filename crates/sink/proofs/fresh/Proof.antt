@@ -1,5 +1,5 @@
 -- `sink::fresh` meets its contract: its parts by the calls. Assumes nothing.
-use Rattle.sink.specs.Sink.{freshState}
+use Rattle.sink.specs.Sink.{freshSink}
 use borrow.Author.Needs.{needs}
 use Rattle.sink.proofs.fresh.Statement.{statement}
 use Rattle.sink.proofs.fresh.Tie as tie
@@ -11,7 +11,7 @@ blank-requires : tie.Need-blank-requires
 blank-requires c κs = search needs
 
 returns : tie.Need-returns
-unfolding freshState
+unfolding freshSink
 returns c = simp (c .blank .ensures, c .before .fresh .ensures)
 
 pub fresh-spec : {M : Type 1} → statement M

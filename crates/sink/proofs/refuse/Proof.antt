@@ -4,11 +4,11 @@ use borrow.Author.Needs.{needs}
 use Rattle.sink.proofs.refuse.Statement.{statement}
 use Rattle.sink.proofs.refuse.Tie as tie
 
-silence-requires : tie.Need-silence-requires
-silence-requires c κs = search needs
+silent-requires : tie.Need-silent-requires
+silent-requires c κs = search needs
 
 returns : tie.Need-returns
 returns c = search told-none
 
 pub refuse-spec : {M : Type 1} → statement M
-refuse-spec = tie.close (tie.spec silence-requires returns)
+refuse-spec = tie.close (tie.spec silent-requires returns)

@@ -5,8 +5,8 @@ use borrow.Author.Needs.{needs}
 use Rattle.sink.proofs.sink.Statement.{statement}
 use Rattle.sink.proofs.sink.Tie as tie
 
-au4-requires : tie.Need-au4-requires
-au4-requires c κs = search needs
+au4-shape-requires : tie.Need-au4-shape-requires
+au4-shape-requires c κs = search needs
 
 feed-requires : tie.Need-feed-requires
 feed-requires c κs = search au4-fits
@@ -21,4 +21,4 @@ returns : tie.Need-returns
 returns c = search feed-as
 
 pub sink-spec : {M : Type 1} → statement M
-sink-spec = tie.close (tie.spec au4-requires feed-requires same-length same-length-2 returns)
+sink-spec = tie.close (tie.spec au4-shape-requires feed-requires same-length same-length-2 returns)

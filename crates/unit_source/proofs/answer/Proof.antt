@@ -22,8 +22,8 @@ add-if3 c = search needs
 returns-3 : tie.Need-returns-3
 returns-3 c = search wrong-unit
 
-adjusts-requires : tie.Need-adjusts-requires
-adjusts-requires c κs = search needs
+is-adjustment-requires : tie.Need-is-adjustment-requires
+is-adjustment-requires c κs = search needs
 
 returns-4 : tie.Need-returns-4
 returns-4 c = search wrong-adjustment
@@ -41,6 +41,6 @@ answer-spec =
     mul-if3
     add-if3
     returns-3
-    adjusts-requires
+    is-adjustment-requires
     returns-4
     returns-5)

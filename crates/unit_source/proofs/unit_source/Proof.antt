@@ -5,8 +5,8 @@ use borrow.Author.Needs.{needs}
 use Rattle.unit_source.proofs.unit_source.Statement.{statement}
 use Rattle.unit_source.proofs.unit_source.Tie as tie
 
-au4-requires : tie.Need-au4-requires
-au4-requires c κs = search needs
+au4-shape-requires : tie.Need-au4-shape-requires
+au4-shape-requires c κs = search needs
 
 make-requires : tie.Need-make-requires
 make-requires c κs = search au4-fits
@@ -18,4 +18,4 @@ returns : tie.Need-returns
 returns c = search makes-at
 
 pub unit-source-spec : {M : Type 1} → statement M
-unit-source-spec = tie.close (tie.spec au4-requires make-requires same-length returns)
+unit-source-spec = tie.close (tie.spec au4-shape-requires make-requires same-length returns)

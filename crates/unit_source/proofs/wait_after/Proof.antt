@@ -1,5 +1,5 @@
 -- `unit_source::wait_after` meets its contract: an answer for each case. Assumes nothing.
-use Rattle.unit_source.specs.Source.{waitAfter}
+use Rattle.unit_source.specs.Source.{sourceWaitAfter}
 use borrow.Author.Needs.{needs}
 use Rattle.unit_source.proofs.wait_after.Statement.{statement}
 use Rattle.unit_source.proofs.wait_after.Tie as tie
@@ -17,15 +17,15 @@ enum-told-3 : tie.Need-enum-told-3
 enum-told-3 c = search needs
 
 returns : tie.Need-returns
-unfolding waitAfter
+unfolding sourceWaitAfter
 returns c = simp (c .before .enum-told .given .1) (c .one-more .ensures)
 
 returns-2 : tie.Need-returns-2
-unfolding waitAfter
+unfolding sourceWaitAfter
 returns-2 c = simp (c .enum-told2 .given .1)
 
 returns-3 : tie.Need-returns-3
-unfolding waitAfter
+unfolding sourceWaitAfter
 returns-3 c = simp (c .enum-told3 .given .1)
 
 pub wait-after-spec : {M : Type 1} → statement M

@@ -43,7 +43,7 @@ use denote.Triple.Clauses.{ensured, lasts}
 use Rattle.receiving.specs.declared.Ended.{Ended}
 use Rattle.receiving.proofs.Ended as E
 use Rattle.receiving.proofs.Ended.Laws as E′
-use Rattle.view.specs.View.{inOrder, containerOf, Views}
+use Rattle.view.specs.View.{inOrder, containerHanded, Views}
 use Rattle.view.specs.declared.View.{View}
 use Rattle.view.proofs.Parts.{handed-seen}
 use Rattle.view.proofs.Slots.{ending, number, lent, drops, head-is}
@@ -153,7 +153,7 @@ module _ {M : Type 1} (𝓤 : URA M) (H : Heap 𝓤) (A : Atoms 𝓤) (W : Given
   nth-said : (x y c : RefT (List ℕ)) → ent 𝓤 (ensured 𝓤 H A nth.ended (nth.clauses 𝓤 H A mem run) (κ, tt) (d, (k, (x, (y, tt)))) tt c) (fact 𝓤 (Says x y c))
   nth-said x y c = exE 𝓤 _ (λ ws. snd∗ 𝓤 (sem 𝓤 H A (lasts nth.ended (κ, tt) (d, (k, (x, (y, tt)))) ws)) (fact 𝓤 (Says x y c)))
 
-  exits : (c : RefT (List ℕ)) (u : Val) → now c ≡ containerOf d z (now s) (now t) k → ent 𝓤 (⋆ 𝓤 H A (‵ (Own c u) ∷ Token ∷ [])) (Post u)
+  exits : (c : RefT (List ℕ)) (u : Val) → now c ≡ containerHanded d z (now s) (now t) k → ent 𝓤 (⋆ 𝓤 H A (‵ (Own c u) ∷ Token ∷ [])) (Post u)
   exits c u e =
       qed W (‵ (Own c u) ∷ Token ∷ []) ∵
       suffices ! _ (ends-at 𝓤 H A container.ended stayed (container.clauses 𝓤 H A mem run) W (((κ, tt), (q, tt), tt, (d, (z, (s, (t, (k, tt))))), vals), tt) u c (tt, (tt, (tt, (tt, (tt, tt))))) (tt, (tt, (tt, (tt, (tt, tt)))))) $ says ! e $

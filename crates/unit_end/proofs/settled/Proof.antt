@@ -1,0 +1,31 @@
+-- `unit_end::settled` meets its contract: the three conditions, in a normal state. Assumes nothing.
+use Rattle.unit_end.specs.Report.{settledOf}
+use borrow.Author.Needs.{needs}
+use Rattle.unit_end.proofs.settled.Statement.{statement}
+use Rattle.unit_end.proofs.settled.Tie as tie
+
+defects-of-requires : tie.Need-defects-of-requires
+defects-of-requires c κs = search needs
+
+none-stands-requires : tie.Need-none-stands-requires
+none-stands-requires c κs = search needs
+
+label-expected-requires : tie.Need-label-expected-requires
+label-expected-requires c κs = search needs
+
+trace-expected-requires : tie.Need-trace-expected-requires
+trace-expected-requires c κs = search needs
+
+returns : tie.Need-returns
+unfolding settledOf
+returns c = simp (c .trace-expected .ensures, c .before .label-expected .ensures, c .before .before .none-stands .ensures, c .before .before .before .defects-of .ensures)
+
+pub settled-spec : {M : Type 1} → statement M
+settled-spec =
+    tie.close
+    (tie.spec
+    defects-of-requires
+    none-stands-requires
+    label-expected-requires
+    trace-expected-requires
+    returns)
