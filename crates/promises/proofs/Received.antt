@@ -233,7 +233,7 @@ unit-end-total-after-determined κs a x y s t p q = p ∙ sym q
 pub receiving-silent-determined : Determines {O = AfterUnit} 0 receiving-silent.ps receiving-silent.r receiving-silent-promise.Post (λ κs r e. r)
 receiving-silent-determined κs a x y s t p q = p ∙ sym q
 
-pub receiving-receive-determined : Determines {O = UnitOutcome} 3 receiving-receive.ps receiving-receive.r receiving-receive-promise.Post (λ κs r e. record { left = r; held = now (e .1 .1 .1 .1 .1 .1 .1 .0); done = now (e .1 .1 .1 .1 .1 .1 .1 .1 .0) })
+pub receiving-receive-determined : Determines {O = UnitOutcome} 3 receiving-receive.ps receiving-receive.r receiving-receive-promise.Post (λ κs r e. record { after = r; held = now (e .1 .1 .1 .1 .1 .1 .1 .0); done = now (e .1 .1 .1 .1 .1 .1 .1 .1 .0) })
 receiving-receive-determined κs a x y s t p q = p ∙ sym q
 
 -- ---- view
