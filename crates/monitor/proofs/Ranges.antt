@@ -10,17 +10,17 @@ use borrow.Author.Tests.{le-leb, leb-true, ltb-true, eqb-true}
 use Rattle.laws.proofs.Tests.{by-test, and-left, and-right}
 use Rattle.counts.specs.Counts.{more, runOn}
 use Rattle.trace_message.specs.Message.{alike}
-use Rattle.overhead.specs.declared.Label.{Label}
+use Rattle.overhead.specs.declared.Accepted.{Accepted}
 use Rattle.overhead.specs.declared.Defect.{Defect}
-use Rattle.overhead.specs.Labels.{labelOf}
+use Rattle.overhead.specs.Accepted.{acceptedOf}
 use Rattle.overhead.specs.Defects.{defectOf, remoteOf}
 use Rattle.trace_monitor.specs.declared.Gathered.{Gathered}
 use Rattle.trace_monitor.specs.declared.Trace.{Trace}
 use Rattle.trace_monitor.specs.Trace.{gatheredOf, endsGood, spoils, withGood, withoutGood, traceOf, blankTrace}
 use Rattle.monitor.specs.declared.Overhead.{Overhead}
-use Rattle.monitor.specs.declared.Expected.{Expected}
+use Rattle.settings.specs.declared.Settings.{Settings}
 use Rattle.monitor.specs.declared.Monitor.{Monitor}
-use Rattle.monitor.specs.Monitoring.{blankOf, monitorStep, monitorInRange}
+use Rattle.monitor.specs.Monitoring.{forgot, blankOf, watchStep, monitorStep, watchInRange, monitorInRange}
 
 -- a run of equal ones stops at the end of its range
 run-most : (same : Bool) (run most : ℕ) → 1 ≤ most → runOn same run most ≤ most
@@ -29,12 +29,12 @@ run-most same run most h = by-test (λ (r : ℕ). r ≤ most) same (λ _. omega 
 
 -- ---- label and defects, whatever they were
 
-label-range : (l : Label) (c2 expected : ℕ) → labelOf l c2 expected .run ≤ 5
-unfolding labelOf
-label-range l c2 expected =
-    let run = runOn (eqb c2 (l .last)) (l .run) 5 in
-    let h : run ≤ 5 = run-most (eqb c2 (l .last)) (l .run) 5 (omega arith) in
-    by-test (λ (r : Label). r .run ≤ 5) (leb 5 run) (λ _. h) (λ _. h)
+label-range : (a : Accepted) (c2 : ℕ) → acceptedOf a c2 .run ≤ 5
+unfolding acceptedOf
+label-range a c2 =
+    let run = runOn (eqb c2 (a .last)) (a .run) 5 in
+    let h : run ≤ 5 = run-most (eqb c2 (a .last)) (a .run) 5 (omega arith) in
+    by-test (λ (r : Accepted). r .run ≤ 5) (leb 5 run) (λ _. h) (λ _. h)
 
 with-range : (d : Defect) (bit : Bool) → defectOf d bit .with ≤ 5
 unfolding defectOf
@@ -83,37 +83,44 @@ trace-range t j1 expected h =
 -- ---- the monitor
 
 -- what is asked of the monitor before
-run-in : (m : Monitor) → monitorInRange m ≡ true → m .trace .run ≤ 3
-unfolding monitorInRange
+run-in : (m : Monitor) → monitorInRange m ≡ true → m .watch .trace .run ≤ 3
+unfolding watchInRange
 run-in m h =
+    let w = m .watch in
     let a =
-    leb (m .label .run) 5
-    && leb (m .uneq .with) 5
-    && leb (m .uneq .without) 5
-    && leb (m .rdi .with) 5
-    && leb (m .rdi .without) 5
-    && leb (m .trace .gathered .place) 15 in
-    let b = leb (m .trace .run) 3 in
-    leb-true (m .trace .run) 3 (and-right a b (and-left (a && b) (leb (m .trace .without) 48) h))
+    leb (w .label .run) 5
+    && leb (w .uneq .with) 5
+    && leb (w .uneq .without) 5
+    && leb (w .rdi .with) 5
+    && leb (w .rdi .without) 5
+    && leb (w .trace .gathered .place) 15 in
+    let b = leb (w .trace .run) 3 in
+    leb-true (w .trace .run) 3 (and-right a b (and-left (a && b) (leb (w .trace .without) 48) h))
 
-pub step-in : (m : Monitor) (c : Overhead) (e : Expected) → m .trace .run ≤ 3 → monitorInRange (monitorStep m c e) ≡ true
-unfolding monitorInRange monitorStep
+pub step-in : (m : Monitor) (c : Overhead) (e : Settings) → m .watch .trace .run ≤ 3 → monitorInRange (monitorStep m c e) ≡ true
+unfolding watchInRange watchStep monitorStep
 step-in m c e h =
-    let t = trace-range (m .trace) (c .j1) (e .trace) h in
+    let w = m .watch in
+    let t = trace-range (w .trace) (c .j1) (e .trace) h in
     rw (
-      le-leb _ 5 (label-range (m .label) (c .c2) (e .label)),
-      le-leb _ 5 (with-range (m .uneq) (eqb (c .c2) 0)),
-      le-leb _ 5 (without-range (m .uneq) (eqb (c .c2) 0)),
-      le-leb _ 5 (with-range (m .rdi) (remoteOf (c .g1))),
-      le-leb _ 5 (without-range (m .rdi) (remoteOf (c .g1))),
+      le-leb _ 5 (label-range (w .label) (c .c2)),
+      le-leb _ 5 (with-range (w .uneq) (eqb (c .c2) 0)),
+      le-leb _ 5 (without-range (w .uneq) (eqb (c .c2) 0)),
+      le-leb _ 5 (with-range (w .rdi) (remoteOf (c .g1))),
+      le-leb _ 5 (without-range (w .rdi) (remoteOf (c .g1))),
       le-leb _ 15 (t .place),
       le-leb _ 3 (t .run),
       le-leb _ 48 (t .without),
     )
 
-pub step-range : (m : Monitor) (c : Overhead) (e : Expected) → monitorInRange m ≡ true → monitorInRange (monitorStep m c e) ≡ true
+pub step-range : (m : Monitor) (c : Overhead) (e : Settings) → monitorInRange m ≡ true → monitorInRange (monitorStep m c e) ≡ true
 step-range m c e h = step-in m c e (run-in m h)
 
 pub blank-range : (n : ℕ) → n ≤ 48 → monitorInRange (blankOf n) ≡ true
-unfolding monitorInRange blankOf blankTrace
+unfolding watchInRange blankOf blankTrace
 blank-range n h = le-leb n 48 h
+
+-- the last parity has no range
+pub forgot-range : (m : Monitor) → monitorInRange m ≡ true → monitorInRange (forgot m) ≡ true
+unfolding forgot
+forgot-range m h = h

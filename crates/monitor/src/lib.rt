@@ -4,7 +4,8 @@ ghost use mathlib.Core.Path.{_≡_};
 ghost use Prim.Native.Nat.{_*_, _<_};
 ghost use lib.ListN.{length};
 ghost use Rattle.monitor.specs.Seeing.{seenIn};
-ghost use Rattle.monitor.specs.Monitoring.{blankOf, monitorInRange, seenOf};
+ghost use Rattle.monitor.specs.Monitoring.{noParity, forgot, blankOf, monitorInRange, watchStep, seenOf};
+use settings::Settings;
 
 // What is seen of a container: four of its overhead bytes, and the exclusive or of all its bytes.
 pub struct Overhead {
@@ -15,20 +16,21 @@ pub struct Overhead {
     pub parity: u8,
 }
 
-// The expected label and trace.
-pub struct Expected {
-    pub label: u8,
-    pub trace: [u8; 15],
-}
-
-// All that is kept from container to container.
+// What is watched from container to container: the label with dPLM, dUNEQ, dRDI, and the trace with dTIM.
 #[repr(C)]
-pub struct Monitor {
-    pub parity: overhead::Parity,
-    pub label: overhead::Label,
+pub struct Watch {
+    pub label: overhead::Accepted,
+    pub plm: bool,
     pub uneq: overhead::Defect,
     pub rdi: overhead::Defect,
     pub trace: trace_monitor::Trace,
+}
+
+// All that is kept from container to container: the last parity, which a restart forgets, and what is watched.
+#[repr(C)]
+pub struct Monitor {
+    pub parity: overhead::Parity,
+    pub watch: Watch,
 }
 
 // What a container gives: the monitor after it, its violations, and those that the far end returned.
@@ -56,32 +58,50 @@ pub fn see(columns: usize, container: &[u8]) -> Overhead
     }
 }
 
+// No last parity: violations are 0 until there is one.
+fn no_parity() -> overhead::Parity
+    ensures { λ r. ⌜ r ≡ noParity ⌝ }
+{
+    overhead::Parity {
+        known: false,
+        value: 0,
+    }
+}
+
+// The monitor without its last parity.
+pub fn forget(m: Monitor) -> Monitor
+    ensures { λ r. ⌜ r ≡ forgot m ⌝ }
+{
+    let mut n = m;
+    n.parity = no_parity();
+    n
+}
+
 // All cleared, with the count of containers without a message given: 0 for the fresh monitor, 48 for a unit with SSF.
 pub fn blank(without: u8) -> Monitor
     ensures { λ r. ⌜ r ≡ blankOf without ⌝ }
 {
-    let parity = overhead::Parity {
-        known: false,
-        value: 0,
-    };
-    let label = overhead::Label {
+    let label = overhead::Accepted {
         last: 0,
         run: 0,
         known: false,
-        accepted: 0,
-        plm: false,
+        value: 0,
     };
     let none = overhead::Defect {
         with: 0,
         without: 0,
         stands: false,
     };
-    Monitor {
-        parity: parity,
-        label: label,
+    let watch = Watch {
+        label,
+        plm: false,
         uneq: none,
         rdi: none,
         trace: trace_monitor::blank(without),
+    };
+    Monitor {
+        parity: no_parity(),
+        watch,
     }
 }
 
@@ -89,41 +109,53 @@ pub fn blank(without: u8) -> Monitor
 pub fn in_range(m: Monitor) -> bool
     ensures { λ r. ⌜ r ≡ monitorInRange m ⌝ }
 {
-    (m.label.run <= 5)
-        & (m.uneq.with <= 5)
-        & (m.uneq.without <= 5)
-        & (m.rdi.with <= 5)
-        & (m.rdi.without <= 5)
-        & (m.trace.gathered.place <= 15)
-        & (m.trace.run <= 3)
-        & (m.trace.without <= 48)
+    (m.watch.label.run <= 5)
+        & (m.watch.uneq.with <= 5)
+        & (m.watch.uneq.without <= 5)
+        & (m.watch.rdi.with <= 5)
+        & (m.watch.rdi.without <= 5)
+        & (m.watch.trace.gathered.place <= 15)
+        & (m.watch.trace.run <= 3)
+        & (m.watch.trace.without <= 48)
 }
 
-// One more container.
-pub fn step(m: Monitor, c: Overhead, e: Expected) -> Seen
-    ensures { λ r. ⌜ r ≡ seenOf m c e ⌝ }
+// What is watched, with one more container.
+fn watch_step(w: Watch, c: Overhead, e: Settings) -> Watch
+    ensures { λ r. ⌜ r ≡ watchStep w c e ⌝ }
 {
-    let before = m.parity;
-    let label = m.label;
-    let uneq = m.uneq;
-    let rdi = m.rdi;
-    let trace = m.trace;
+    let before = w.label;
+    let uneq = w.uneq;
+    let rdi = w.rdi;
+    let trace = w.trace;
     let expected = e.trace;
-    let violations = overhead::violations(before, c.b3);
-    let kept = overhead::Parity {
-        known: true,
-        value: c.parity,
-    };
-    let after = Monitor {
-        parity: kept,
-        label: overhead::label_step(label, c.c2, e.label),
+    let label = overhead::accept_step(before, c.c2);
+    Watch {
+        label,
+        plm: overhead::mismatch(label, e.label),
         uneq: overhead::defect_step(uneq, c.c2 == 0),
         rdi: overhead::defect_step(rdi, overhead::remote(c.g1)),
         trace: trace_monitor::trace_step(trace, c.j1, expected),
+    }
+}
+
+// One more container.
+pub fn step(m: Monitor, c: Overhead, e: Settings) -> Seen
+    ensures { λ r. ⌜ r ≡ seenOf m c e ⌝ }
+{
+    let last = m.parity;
+    let before = m.watch;
+    let violations = overhead::violations(last, c.b3);
+    let parity = overhead::Parity {
+        known: true,
+        value: c.parity,
+    };
+    let monitor = Monitor {
+        parity,
+        watch: watch_step(before, c, e),
     };
     Seen {
-        monitor: after,
-        violations: violations,
+        monitor,
+        violations,
         returned: overhead::returned(c.g1),
     }
 }

@@ -7,8 +7,8 @@ use Rattle.refusals.specs.Refusals.{answerNumber}
 use Rattle.shape.specs.Shape.{au4}
 use Rattle.pointer_rules.specs.declared.State as reading
 use Rattle.pointer.specs.Machine.{offsetOf}
-use Rattle.monitor.specs.declared.Expected.{Expected}
-use Rattle.unit_end.specs.declared.Flags.{Flags}
+use Rattle.settings.specs.declared.Settings.{Settings}
+use Rattle.settings.specs.declared.Flags.{Flags}
 use Rattle.sink.specs.Sink.{freshSink, sink, Receives}
 use Rattle.sink.specs.declared.State.{State}
 use Rattle.sink.specs.declared.Received.{Received}
@@ -53,6 +53,6 @@ shown-is x n p e f = rw (e, f) refl
 pub fresh-is : (s : State) (p : Plain) → s ≡ freshSink → p ≡ plainOf s → p ≡ plainOf freshSink
 fresh-is s p e f = f ∙ ap plainOf e
 
-pub shows : (p : Plain) (e : Expected) (flags : Flags) (unit held done held′ done′ : List ℕ) (s : State) (x : Received) (q : Shown)
-    → s ≡ stateOf p → Receives au4 s e flags unit held done x held′ done′ → q ≡ shownOf x → Shows p e flags unit held done q held′ done′
-shows p e flags unit held done held′ done′ s x q k h f = rw (f, ← k) (ap probedOf (h .outcome-is))
+pub shows : (p : Plain) (e : Settings) (unit held done held′ done′ : List ℕ) (s : State) (x : Received) (q : Shown)
+    → s ≡ stateOf p → Receives au4 s e unit held done x held′ done′ → q ≡ shownOf x → Shows p e unit held done q held′ done′
+shows p e unit held done held′ done′ s x q k h f = rw (f, ← k) (ap probedOf (h .outcome-is))

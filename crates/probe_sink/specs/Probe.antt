@@ -11,8 +11,8 @@ use Rattle.shape.specs.Shape.{au4}
 use Rattle.pointer_rules.specs.declared.State as reading
 use Rattle.pointer_rules.specs.declared.State.the-variants.{Normal, Alarm, Lost}
 use Rattle.pointer.specs.Machine.{isNormal, isAlarm, offsetOf}
-use Rattle.monitor.specs.declared.Expected.{Expected}
-use Rattle.unit_end.specs.declared.Flags.{Flags}
+use Rattle.settings.specs.declared.Settings.{Settings}
+use Rattle.settings.specs.declared.Flags.{Flags}
 use Rattle.receiving.specs.declared.Ended.{Ended}
 use Rattle.view.specs.View.{containerHanded}
 use Rattle.sink.specs.declared.State.{State}
@@ -73,8 +73,8 @@ pub record SinkProbed : Type 0 where
 abbrev pub probedOf : ReceivedOutcome → SinkProbed
 probedOf o = record { shown = shownOf (o .received); held = o .held; done = o .done }
 
-abbrev pub Shows : Plain → Expected → Flags → List ℕ → List ℕ → List ℕ → Shown → List ℕ → List ℕ → Type 0
-Shows p e flags unit held done r held′ done′ = _≡_ {A = SinkProbed} (record { shown = r; held = held′; done = done′ }) (probedOf (sink au4 (stateOf p) e flags unit held done))
+abbrev pub Shows : Plain → Settings → List ℕ → List ℕ → List ℕ → Shown → List ℕ → List ℕ → Type 0
+Shows p e unit held done r held′ done′ = _≡_ {A = SinkProbed} (record { shown = r; held = held′; done = done′ }) (probedOf (sink au4 (stateOf p) e unit held done))
 
 -- a container written to the start of a lent buffer: how many bytes, and the buffer; 0 and the buffer as it was, where it is too short
 pub record ContainerWritten : Type 0 where

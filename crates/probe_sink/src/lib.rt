@@ -3,7 +3,7 @@
 ghost use mathlib.Core.Path.{_≡_};
 ghost use Rattle.sink.specs.Sink as sink;
 ghost use Rattle.probe_sink.specs.Probe.{pointerState, stateKind, stateOf, plainOf, shownOf, Shows, WritesContainer};
-use monitor::Expected;
+use monitor::Settings;
 use monitor::Monitor;
 use pointer::Pointer;
 use pointer::Rows;

@@ -17,7 +17,7 @@ use Rattle.trace_monitor.specs.declared.Trace.{Trace}
 use Rattle.monitor.specs.declared.Overhead.{Overhead}
 use Rattle.monitor.specs.declared.Monitor.{Monitor}
 use Rattle.monitor.specs.declared.Seen.{Seen}
-use Rattle.unit_end.specs.declared.Flags.{Flags}
+use Rattle.settings.specs.declared.Flags.{Flags}
 use Rattle.unit_end.specs.declared.Defects.{Defects}
 use Rattle.unit_end.specs.declared.Actions.{Actions}
 use Rattle.unit_end.specs.declared.Causes.{Causes}

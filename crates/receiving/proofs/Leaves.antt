@@ -17,17 +17,17 @@ use Rattle.cut.specs.Cut.{Line, Cuts, cutOf, completedOf, insidePart, endedCoun
 use Rattle.cut.specs.declared.Cut.{Cut}
 use Rattle.cut.proofs.Within.{inside-fits}
 use Rattle.monitor.specs.Seeing.{seenIn}
-use Rattle.monitor.specs.Monitoring.{seenOf}
+use Rattle.monitor.specs.Monitoring.{forgot, seenOf}
 use Rattle.monitor.specs.declared.Monitor.{Monitor}
 use Rattle.monitor.specs.declared.Overhead.{Overhead}
-use Rattle.monitor.specs.declared.Expected.{Expected}
+use Rattle.settings.specs.declared.Settings.{Settings}
 use Rattle.monitor.specs.declared.Seen.{Seen}
 use Rattle.receiving.specs.declared.Begin.{Begin}
 use Rattle.receiving.specs.declared.Both.{Both}
 use Rattle.receiving.specs.declared.Ended.{Ended}
 use Rattle.receiving.specs.declared.AfterUnit.{AfterUnit}
 use Rattle.receiving.specs.Turns.{seenWhere, takenWhere, turned, takenBoth}
-use Rattle.receiving.specs.Receiving.{forgot, fromIn, beginIn, cutIn, notSeen, watched, endedIn, afterBy, bothSeen, receivedNormal, NormalOutcomeIs, Inside, Seeable, Receivable}
+use Rattle.receiving.specs.Receiving.{monitorIn, fromIn, beginIn, cutIn, notSeen, watched, endedIn, afterBy, bothSeen, receivedNormal, NormalOutcomeIs, Inside, Seeable, Receivable}
 
 -- ---- what is watched
 
@@ -35,7 +35,7 @@ some-columns : (s : Shape) → Fit s → 0 < s .columns
 some-columns s f = omega (arith, f .nine, f .two, f .some)
 
 -- what is seen in the done buffer is the completed container, where one was completed
-watched-done : (s : Shape) (c : Cut) (unit held done : List ℕ) (e : Expected) (m : Monitor) (b : Bool) → c .ends ≡ b
+watched-done : (s : Shape) (c : Cut) (unit held done : List ℕ) (e : Settings) (m : Monitor) (b : Bool) → c .ends ≡ b
     → watched b (s .columns) (doneOf s c unit held done) e m ≡ watched b (s .columns) (completedOf s c unit held) e m
 unfolding watched doneOf
 watched-done s c unit held done e m true h = rw h refl
@@ -43,14 +43,11 @@ watched-done s c unit held done e m false h = refl
 
 -- ---- each part, by its test
 
-pub forgot-restart : (t : Taken) (restart : Bool) (m : Monitor) → restart ≡ restarts t → restart ≡ true
-    → record { parity = record { known = false; value = 0 }; label = m .label; uneq = m .uneq; rdi = m .rdi; trace = m .trace } ≡ forgot t m
-unfolding forgot
-forgot-restart t restart m e h = rw (← e, h) refl
+pub met-restart : (t : Taken) (restart : Bool) (m n : Monitor) → restart ≡ restarts t → restart ≡ true → n ≡ forgot m → n ≡ monitorIn t m
+met-restart t restart m n e h f = rw (← e, h) f
 
-pub forgot-nothing : (t : Taken) (restart : Bool) (m : Monitor) → restart ≡ restarts t → restart ≡ false → m ≡ forgot t m
-unfolding forgot
-forgot-nothing t restart m e h = rw (← e, h) refl
+pub met-nothing : (t : Taken) (restart : Bool) (m : Monitor) → restart ≡ restarts t → restart ≡ false → m ≡ monitorIn t m
+met-nothing t restart m e h = rw (← e, h) refl
 
 pub from-restart : (s : Shape) (restart : Bool) (a : Adjustment) (offset p : ℕ) → restart ≡ true → p ≡ placeOf s offset → 3 * s .step + p ≡ fromIn s restart a offset
 unfolding fromIn
@@ -63,14 +60,14 @@ from-goes s restart a offset r h e = rw h e
 pub seen-ended : (ended : Bool) (columns : ℕ) (container : List ℕ) (o : Overhead) → ended ≡ true → o ≡ seenIn columns container → o ≡ seenWhere ended columns container
 seen-ended ended columns container o h j = rw h j
 
-pub taken-ended : (ended : Bool) (o : Overhead) (e : Expected) (m : Monitor) (r : Seen) → ended ≡ true → r ≡ seenOf m o e → r ≡ takenWhere ended o e m
+pub taken-ended : (ended : Bool) (o : Overhead) (e : Settings) (m : Monitor) (r : Seen) → ended ≡ true → r ≡ seenOf m o e → r ≡ takenWhere ended o e m
 taken-ended ended o e m r h j = rw h j
 
-pub taken-none : (ended : Bool) (o : Overhead) (e : Expected) (m : Monitor) (r : Seen) → ended ≡ false → r ≡ notSeen m → r ≡ takenWhere ended o e m
+pub taken-none : (ended : Bool) (o : Overhead) (e : Settings) (m : Monitor) (r : Seen) → ended ≡ false → r ≡ notSeen m → r ≡ takenWhere ended o e m
 taken-none ended o e m r h j = rw h j
 
 -- what is seen where it ended, taken in where it ended
-taken-watched : (ended : Bool) (columns : ℕ) (container : List ℕ) (e : Expected) (m : Monitor)
+taken-watched : (ended : Bool) (columns : ℕ) (container : List ℕ) (e : Settings) (m : Monitor)
     → takenWhere ended (seenWhere ended columns container) e m ≡ watched ended columns container e m
 unfolding watched
 taken-watched true columns container e m = refl
@@ -119,23 +116,23 @@ pub left-by : (c : Cut) (first second : Seen) (ended : Ended) → ended ≡ ende
 left-by c first second ended e = rw e refl
 
 -- one turn
-pub turn-takes : (k : ℕ) (c : Cut) (completed inside : Overhead) (e : Expected) (b : Both) (ended : Bool) (o : Overhead) (later : Seen)
+pub turn-takes : (k : ℕ) (c : Cut) (completed inside : Overhead) (e : Settings) (b : Both) (ended : Bool) (o : Overhead) (later : Seen)
     → ended ≡ cond (eqb k 0) (c .ends) (c .inside) → o ≡ cond (eqb k 0) completed inside → later ≡ takenWhere ended o e (b .later .monitor)
     → record { earlier = b .later; later = later } ≡ turned k c completed inside e b
 turn-takes k c completed inside e b ended o later h i j = rw (j, h, i) refl
 
 -- what k turns make of b
-unfoldable pub turns : ℕ → Cut → Overhead → Overhead → Expected → Both → Both
+unfoldable pub turns : ℕ → Cut → Overhead → Overhead → Settings → Both → Both
 turns zero c completed inside e b = b
 turns (suc k) c completed inside e b = turned k c completed inside e (turns k c completed inside e b)
 
-pub turns-on : (k : ℕ) (c : Cut) (completed inside : Overhead) (e : Expected) (b₀ b r : Both)
+pub turns-on : (k : ℕ) (c : Cut) (completed inside : Overhead) (e : Settings) (b₀ b r : Both)
     → b ≡ turns k c completed inside e b₀ → r ≡ turned k c completed inside e b → r ≡ turns (k + 1) c completed inside e b₀
 unfolding turns
 turns-on k c completed inside e b₀ b r h j = rw add-one (rw h at j)
 
 -- two turns take in both
-pub turns-taken : (k : ℕ) (c : Cut) (completed inside : Overhead) (e : Expected) (m : Monitor) (none : Seen) (b : Both) (r : AfterUnit)
+pub turns-taken : (k : ℕ) (c : Cut) (completed inside : Overhead) (e : Settings) (m : Monitor) (none : Seen) (b : Both) (r : AfterUnit)
     → none ≡ notSeen m → 2 ≤ k → k ≤ 2 → b ≡ turns k c completed inside e (record { earlier = none; later = none }) → r ≡ afterBy c (b .earlier) (b .later)
     → r ≡ takenBoth c completed inside m e
 unfolding turns
@@ -143,7 +140,7 @@ turns-taken k c completed inside e m none b r n h i j l =
     let two : k ≡ 2 = omega arith in
     l ∙ rw (j, two, n) refl
 
-pub both-watched : (s : Shape) (c : Cut) (done inside : List ℕ) (m : Monitor) (e : Expected) (o p : Overhead) (r : AfterUnit)
+pub both-watched : (s : Shape) (c : Cut) (done inside : List ℕ) (m : Monitor) (e : Settings) (o p : Overhead) (r : AfterUnit)
     → o ≡ seenWhere (c .ends) (s .columns) done → p ≡ seenWhere (c .inside) (s .columns) inside → r ≡ takenBoth c o p m e
     → r ≡ bothSeen s c done inside m e
 unfolding bothSeen
@@ -185,8 +182,8 @@ module _ (s : Shape) (t : Taken) (offset count : ℕ) (unit held done : List ℕ
               done-is = l ∙ q .sizes .done-is;
             }
 
-        pub unit-leaves : (m before : Monitor) (e : Expected) (left : AfterUnit)
-            → before ≡ forgot t m
+        pub unit-leaves : (m before : Monitor) (e : Settings) (left : AfterUnit)
+            → before ≡ monitorIn t m
             → left ≡ bothSeen s c done′ (insidePart s c unit) before e
             → NormalOutcomeIs s t offset count m e unit held done left held′ done′
         unfolding receivedNormal bothSeen
@@ -194,6 +191,6 @@ module _ (s : Shape) (t : Taken) (offset count : ℕ) (unit held done : List ℕ
             let c-is : c ≡ cutIn s t offset count = cuts .cut-is ∙ ap (λ (x : Begin). cutOf s (x .kept) (x .from)) b-is in
             let done-as : done′ ≡ doneOf s c unit held done = cuts .done-is ∙ ap (λ (x : Cut). doneOf s x unit held done) (sym (cuts .cut-is)) in
             let held-as : held′ ≡ heldOf c unit held = cuts .held-is ∙ ap (λ (x : Cut). heldOf x unit held) (sym (cuts .cut-is)) in
-            let first-as : watched (c .ends) (s .columns) done′ e before ≡ watched (c .ends) (s .columns) (completedOf s c unit held) e (forgot t m) =
-            rw (done-as, before-is) (watched-done s c unit held done e (forgot t m) (c .ends) refl) in
+            let first-as : watched (c .ends) (s .columns) done′ e before ≡ watched (c .ends) (s .columns) (completedOf s c unit held) e (monitorIn t m) =
+            rw (done-as, before-is) (watched-done s c unit held done e (monitorIn t m) (c .ends) refl) in
             rw (left-is, first-as, held-as, done-as, c-is) refl

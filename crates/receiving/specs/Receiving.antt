@@ -13,9 +13,9 @@ use Rattle.pointer_rules.specs.declared.Taken.{Taken}
 use Rattle.cut.specs.Cut.{Line, Sizes, cutOf, completedOf, insidePart, endedCount, doneOf, heldOf}
 use Rattle.cut.specs.declared.Cut.{Cut}
 use Rattle.monitor.specs.Seeing.{seenIn}
-use Rattle.monitor.specs.Monitoring.{blankOf, seenOf}
+use Rattle.monitor.specs.Monitoring.{forgot, blankOf, seenOf}
 use Rattle.monitor.specs.declared.Monitor.{Monitor}
-use Rattle.monitor.specs.declared.Expected.{Expected}
+use Rattle.settings.specs.declared.Settings.{Settings}
 use Rattle.monitor.specs.declared.Seen.{Seen}
 use Rattle.receiving.specs.declared.Begin.{Begin}
 use Rattle.receiving.specs.declared.Ended.{Ended}
@@ -27,12 +27,9 @@ use Rattle.receiving.specs.declared.AfterUnit.{AfterUnit}
 abbrev pub keptIn : Bool → ℕ → ℕ
 keptIn restart count = cond restart 0 count
 
--- "and forget the last parity"; all else stays
-unfoldable pub forgot : Taken → Monitor → Monitor
-forgot t m =
-    cond (restarts t)
-    (record { parity = record { known = false; value = 0 }; label = m .label; uneq = m .uneq; rdi = m .rdi; trace = m .trace })
-    m
+-- "and forget the last parity"
+abbrev pub monitorIn : Taken → Monitor → Monitor
+monitorIn t m = cond (restarts t) (forgot m) m
 
 -- where the run of container bytes begins: what lies before J1 in a restart's unit goes nowhere
 unfoldable pub fromIn : Shape → Bool → Adjustment → ℕ → ℕ
@@ -53,7 +50,7 @@ abbrev pub notSeen : Monitor → Seen
 notSeen m = record { monitor = m; violations = 0; returned = 0 }
 
 -- one container, watched where it ended
-unfoldable pub watched : Bool → ℕ → List ℕ → Expected → Monitor → Seen
+unfoldable pub watched : Bool → ℕ → List ℕ → Settings → Monitor → Seen
 watched ended columns container e m = cond ended (seenOf m (seenIn columns container) e) (notSeen m)
 
 -- "up to two containers end in a unit": where each is, and what is told of it
@@ -98,25 +95,25 @@ abbrev pub afterBy : Cut → Seen → Seen → AfterUnit
 afterBy c first second = record { monitor = second .monitor; held = c .rest; ended = endedIn c first second }
 
 -- what is seen, of the container completed in the done buffer and then of the one inside the unit
-unfoldable pub bothSeen : Shape → Cut → List ℕ → List ℕ → Monitor → Expected → AfterUnit
+unfoldable pub bothSeen : Shape → Cut → List ℕ → List ℕ → Monitor → Settings → AfterUnit
 bothSeen s c completed inside m e =
     let first = watched (c .ends) (s .columns) completed e m in
     let second = watched (c .inside) (s .columns) inside e (first .monitor) in
     afterBy c first second
 
 -- a unit that ends normal at the offset, its word taken as t, with `count` bytes held before it
-unfoldable pub receivedNormal : Shape → Taken → ℕ → ℕ → Monitor → Expected → List ℕ → List ℕ → List ℕ → UnitOutcome
+unfoldable pub receivedNormal : Shape → Taken → ℕ → ℕ → Monitor → Settings → List ℕ → List ℕ → List ℕ → UnitOutcome
 receivedNormal s t offset count m e unit held done =
     let c = cutIn s t offset count in
     record {
-      after = bothSeen s c (completedOf s c unit held) (insidePart s c unit) (forgot t m) e;
+      after = bothSeen s c (completedOf s c unit held) (insidePart s c unit) (monitorIn t m) e;
       held = heldOf c unit held;
       done = doneOf s c unit held done;
     }
 
 -- ---- the promise, and where it can be given
 
-abbrev pub NormalOutcomeIs : Shape → Taken → ℕ → ℕ → Monitor → Expected → List ℕ → List ℕ → List ℕ → AfterUnit → List ℕ → List ℕ → Type 0
+abbrev pub NormalOutcomeIs : Shape → Taken → ℕ → ℕ → Monitor → Settings → List ℕ → List ℕ → List ℕ → AfterUnit → List ℕ → List ℕ → Type 0
 NormalOutcomeIs s t offset count m e unit held done r held′ done′ =
     _≡_ {A = UnitOutcome} (record { after = r; held = held′; done = done′ }) (receivedNormal s t offset count m e unit held done)
 

@@ -7,13 +7,13 @@ ghost use lib.ListN.{length};
 ghost use Rattle.shape.specs.Shape.{Fit};
 ghost use Rattle.cut.specs.Cut.{insidePart};
 ghost use Rattle.receiving.specs.Turns.{nothingSeen, seenWhere, takenWhere, turned, takenBoth};
-ghost use Rattle.receiving.specs.Receiving.{Receivable, Inside, Seeable, forgot, fromIn, beginIn, notSeen, endedIn, afterBy, silence, bothSeen, NormalOutcomeIs};
+ghost use Rattle.receiving.specs.Receiving.{Receivable, Inside, Seeable, monitorIn, fromIn, beginIn, notSeen, endedIn, afterBy, silence, bothSeen, NormalOutcomeIs};
 use cut::Cut;
-use monitor::Expected;
 use monitor::Monitor;
 use monitor::Overhead;
 use monitor::Seen;
 use pointer_rules::Taken;
+use settings::Settings;
 use shape::Adjustment;
 use shape::Shape;
 
@@ -62,26 +62,12 @@ fn pick(test: bool, yes: usize, no: usize) -> usize
     if test { yes } else { no }
 }
 
-// The monitor without its last parity, where the unit restarts.
-fn forget(t: Taken, m: Monitor) -> Monitor
-    ensures { λ r. ⌜ r ≡ forgot t m ⌝ }
+// The monitor that the unit's containers meet: without its last parity, where the unit restarts.
+fn monitor_in(t: Taken, m: Monitor) -> Monitor
+    ensures { λ r. ⌜ r ≡ monitorIn t m ⌝ }
 {
     if pointer_rules::is_restart(t) {
-        let parity = overhead::Parity {
-            known: false,
-            value: 0,
-        };
-        let label = m.label;
-        let uneq = m.uneq;
-        let rdi = m.rdi;
-        let trace = m.trace;
-        return Monitor {
-            parity,
-            label,
-            uneq,
-            rdi,
-            trace,
-        };
+        return monitor::forget(m);
     }
     m
 }
@@ -243,7 +229,7 @@ fn pick_seen(test: bool, yes: Overhead, no: Overhead) -> Overhead
 }
 
 // One container taken in, where it ended.
-fn take(ended: bool, m: Monitor, o: Overhead, e: Expected) -> Seen
+fn take(ended: bool, m: Monitor, o: Overhead, e: Settings) -> Seen
     ensures { λ r. ⌜ r ≡ takenWhere ended o e m ⌝ }
 {
     if ended {
@@ -253,7 +239,7 @@ fn take(ended: bool, m: Monitor, o: Overhead, e: Expected) -> Seen
 }
 
 // Turn 0 takes in the one completed, turn 1 the one inside. What was the later one is then the earlier.
-fn turn(k: usize, c: Cut, completed: Overhead, inside: Overhead, b: Both, e: Expected) -> Both
+fn turn(k: usize, c: Cut, completed: Overhead, inside: Overhead, b: Both, e: Settings) -> Both
     ensures { λ r. ⌜ r ≡ turned k c completed inside e b ⌝ }
 {
     let ended = pick_ended(k == 0, c.ends, c.inside);
@@ -265,7 +251,7 @@ fn turn(k: usize, c: Cut, completed: Overhead, inside: Overhead, b: Both, e: Exp
 }
 
 // Both taken in, one after the other. The loop leaves one call of the monitor's step: it is then a part of the sink, and the monitor is not copied to and from a call.
-fn take_both(c: Cut, completed: Overhead, inside: Overhead, m: Monitor, e: Expected) -> AfterUnit
+fn take_both(c: Cut, completed: Overhead, inside: Overhead, m: Monitor, e: Settings) -> AfterUnit
     ensures { λ r. ⌜ r ≡ takenBoth c completed inside m e ⌝ }
 {
     let none = unseen(m);
@@ -284,7 +270,7 @@ fn take_both(c: Cut, completed: Overhead, inside: Overhead, m: Monitor, e: Expec
 }
 
 // What is seen in a unit cut so: in the done buffer, and then in the unit itself.
-fn watch_both(shape: Shape, c: Cut, unit: &[u8], done: &[u8], m: Monitor, e: Expected) -> AfterUnit
+fn watch_both(shape: Shape, c: Cut, unit: &[u8], done: &[u8], m: Monitor, e: Settings) -> AfterUnit
     requires { ⌜ Seeable shape c (now unit) (now done) ⌝ }
     ensures { λ r. ⌜ r ≡ bothSeen shape c (now (done .entry)) (insidePart shape c (now (unit .entry))) m e ⌝ }
 {
@@ -300,7 +286,7 @@ pub fn receive(
     offset: u16,
     count: usize,
     m: Monitor,
-    e: Expected,
+    e: Settings,
     unit: &[u8],
     held: &mut [u8],
     done: &mut [u8],
@@ -309,7 +295,7 @@ pub fn receive(
     ensures { λ r. ⌜ NormalOutcomeIs shape t offset count m e (now (unit .entry)) (now (held .entry)) (now (done .entry)) r (now (held .exit)) (now (done .exit)) ⌝ }
 {
     let b = goes_on(shape, t, offset, count);
-    let before = forget(t, m);
+    let before = monitor_in(t, m);
     let c = cut::cut_unit(shape, b.kept, b.from, unit, held, done);
     watch_both(shape, c, unit, done, before, e)
 }

@@ -71,22 +71,22 @@ module _ (s : Shape) (r : Run) (u : Runs s r) where
         handed-goes s (u .fit) r (u .set) x (r .ask n) (h .ready) (late s r u n x h) (m .was) (m .taken-is) (m .now) (h .together w)
         ∙ ap (boxes (r .box) (x .source .number)) (sym (ended-is n))
 
-    pub monitor-all : pathAt s r (suc n) .state .monitor ≡ watchedAll (s .columns) (r .expected) (x .state .monitor) cs
+    pub monitor-all : pathAt s r (suc n) .state .monitor ≡ watchedAll (s .columns) (r .settings) (x .state .monitor) cs
     unfolding pathAt
     monitor-all =
         monitor-goes s (u .fit) r (u .set) x (r .ask n) (h .ready) (late s r u n x h) (m .was) (m .taken-is) (m .now) (h .together w)
-        ∙ ap (λ (k : ℕ). watchedAll (s .columns) (r .expected) (x .state .monitor) (boxes (r .box) (x .source .number) k)) (sym (ended-is n))
+        ∙ ap (λ (k : ℕ). watchedAll (s .columns) (r .settings) (x .state .monitor) (boxes (r .box) (x .source .number) k)) (sym (ended-is n))
 
-    pub told-all : violationsTold (fedAt s r n .received .ended) ≡ violationsAll (s .columns) (r .expected) (x .state .monitor) cs
+    pub told-all : violationsTold (fedAt s r n .received .ended) ≡ violationsAll (s .columns) (r .settings) (x .state .monitor) cs
     told-all =
         told-goes s (u .fit) r (u .set) x (r .ask n) (h .ready) (late s r u n x h) (m .was) (m .taken-is) (m .now) (h .together w)
-        ∙ ap (λ (k : ℕ). violationsAll (s .columns) (r .expected) (x .state .monitor) (boxes (r .box) (x .source .number) k)) (sym (ended-is n))
+        ∙ ap (λ (k : ℕ). violationsAll (s .columns) (r .settings) (x .state .monitor) (boxes (r .box) (x .source .number) k)) (sym (ended-is n))
 
-    pub settled-all : fedAt s r n .received .settled ≡ settledOf true (pathAt s r (suc n) .state .monitor) (r .expected)
+    pub settled-all : fedAt s r n .received .settled ≡ settledOf true (pathAt s r (suc n) .state .monitor) (r .settings)
     unfolding pathAt
     settled-all =
         settled-is s (u .fit) r (u .set) x (r .ask n) (h .ready) (late s r u n x h)
-        ∙ ap (λ (b : Bool). settledOf b (pathAfter s r x (r .ask n) .state .monitor) (r .expected)) (normal s (u .fit) r (u .set) x (r .ask n) (h .ready) (late s r u n x h) (m .was) (m .taken-is) (m .now))
+        ∙ ap (λ (b : Bool). settledOf b (pathAfter s r x (r .ask n) .state .monitor) (r .settings)) (normal s (u .fit) r (u .set) x (r .ask n) (h .ready) (late s r u n x h) (m .was) (m .taken-is) (m .now))
 
   -- in any units one pathAfter the other
   pub in-order-all : (units n : ℕ) → 3 ≤ n → handedFrom s r (pathAt s r) (receivedAt s r) n units ≡ boxes (r .box) (numberAt s r u n) (endedFrom (madeAt s r) n units)

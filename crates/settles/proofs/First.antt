@@ -23,7 +23,7 @@ later-is s m zero = refl
 later-is s m (suc k) = ap (λ (x : State). sending.containerSourceCalled s x (m .calls (suc k)) .sent .state) (later-is s m k)
 
 module _ (noneBefore : ℕ) (s : Shape) (m : Making) (r : Run) (f : Fit s) (i : InRange s m r) (fine : Fine s r)
-    (box-is : (k : ℕ) → r .box k ≡ sending.containerAt s (m .first) (m .calls) k) (given : (k : ℕ) → Given s (r .expected) (m .calls k)) (spaced : Spaced noneBefore (r .ask))
+    (box-is : (k : ℕ) → r .box k ≡ sending.containerAt s (m .first) (m .calls) k) (given : (k : ℕ) → Given s (r .settings) (m .calls k)) (spaced : Spaced noneBefore (r .ask))
   where
     first-supplied : Supplied s (later s m) r
     first-supplied k = box-is (suc k) ∙ ap (λ (x : State). sending.containerSourceCalled s x (m .calls (suc k)) .container) (sym (later-is s m k))
@@ -32,7 +32,7 @@ module _ (noneBefore : ℕ) (s : Shape) (m : Making) (r : Run) (f : Fit s) (i : 
     first-good =
         record {
           fine = fine;
-          under-way = ap length (box-is 0) ∙ made-full s f m (r .expected) (i .first-in) (fine .label-fine) (fine .trace-fine) given 0;
+          under-way = ap length (box-is 0) ∙ made-full s f m (r .settings) (i .first-in) (fine .label-fine) (fine .trace-fine) given 0;
           given = λ k. given (suc k);
           spaced = spaced;
         }
@@ -44,7 +44,7 @@ module _ (noneBefore : ℕ) (s : Shape) (m : Making) (r : Run) (f : Fit s) (i : 
         in
         let h = settles noneBefore s (later s m) r some f steps later-in first-supplied first-good in
         record {
-          made-done = made-done s f m (r .expected) (i .first-in) (fine .label-fine) (fine .trace-fine) given;
+          made-done = made-done s f m (r .settings) (i .first-in) (fine .label-fine) (fine .trace-fine) given;
           sent-done = h .sent-done;
           fed-done = h .fed-done;
           few = h .few;

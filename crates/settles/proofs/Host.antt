@@ -30,7 +30,7 @@ module _ (s : Shape) (m : Making) (r : Run) (g : Log) (h : Host s m r g) where
 
   received-outcome : (n : ℕ)
       → record { received = g .received n; held = g .path (suc n) .held; done = g .path (suc n) .done }
-      ≡ sink.sink s (g .path n .state) (r .expected) (r .flags) (g .path (suc n) .source .unit) (g .path n .held) (g .path n .done)
+      ≡ sink.sink s (g .path n .state) (r .settings) (g .path (suc n) .source .unit) (g .path n .held) (g .path n .done)
   received-outcome n = h .receives n .outcome-is
 
   -- ---- the containers
@@ -61,7 +61,7 @@ module _ (s : Shape) (m : Making) (r : Run) (g : Log) (h : Host s m r g) where
   fed-is : (n : ℕ) → record { received = g .received n; held = g .path (suc n) .held; done = g .path (suc n) .done } ≡ fed s r (g .path n) (r .ask n)
   fed-is n =
       let x = g .path n in
-      received-outcome n ∙ ap (λ (u : List ℕ). sink.sink s (x .state) (r .expected) (r .flags) u (x .held) (x .done)) (unit-is n)
+      received-outcome n ∙ ap (λ (u : List ℕ). sink.sink s (x .state) (r .settings) u (x .held) (x .done)) (unit-is n)
 
   source-is : (n : ℕ) → g .path (suc n) .source ≡ stream.sendingAfter s (r .box) (g .path n .source) (r .ask n)
   unfolding stream.sendingAfter

@@ -26,7 +26,7 @@ use Rattle.cut.proofs.Outcome.{done-length, held-length}
 use Rattle.monitor.specs.Seeing.{seenIn}
 use Rattle.monitor.specs.Monitoring.{seenOf}
 use Rattle.monitor.specs.declared.Monitor.{Monitor}
-use Rattle.monitor.specs.declared.Expected.{Expected}
+use Rattle.settings.specs.declared.Settings.{Settings}
 use Rattle.settles_monitor.specs.Near.{Whole}
 use Rattle.settles_monitor.proofs.Settles.{whole-step, whole-blank, whole-forgot}
 use Rattle.receiving.specs.Receiving.{UnitOutcome, forgot, cutIn, watched, bothSeen, receivedNormal, silence, beginIn}
@@ -40,17 +40,17 @@ use Rattle.sink_theorems.proofs.Handed.{called-is, is-fed, can}
 
 -- ---- the sink: 15 places
 
-watched-whole : (b : Bool) (columns : ℕ) (container : List ℕ) (e : Expected) (m : Monitor) → Whole m → Whole (watched b columns container e m .monitor)
+watched-whole : (b : Bool) (columns : ℕ) (container : List ℕ) (e : Settings) (m : Monitor) → Whole m → Whole (watched b columns container e m .monitor)
 unfolding watched seenOf
 watched-whole true columns container e m h = whole-step m (seenIn columns container) e h
 watched-whole false columns container e m h = h
 
-both-whole : (s : Shape) (c : Cut) (completed inside : List ℕ) (m : Monitor) (e : Expected) → Whole m → Whole (bothSeen s c completed inside m e .monitor)
+both-whole : (s : Shape) (c : Cut) (completed inside : List ℕ) (m : Monitor) (e : Settings) → Whole m → Whole (bothSeen s c completed inside m e .monitor)
 unfolding bothSeen
 both-whole s c completed inside m e h =
     watched-whole (c .inside) (s .columns) inside e (watched (c .ends) (s .columns) completed e m .monitor) (watched-whole (c .ends) (s .columns) completed e m h)
 
-leaving-whole : (s : Shape) (state : State) (a : AfterWord) (e : Expected) (unit held done : List ℕ) → Whole (state .monitor) → Whole (unitOutcome s state a e unit held done .after .monitor)
+leaving-whole : (s : Shape) (state : State) (a : AfterWord) (e : Settings) (unit held done : List ℕ) → Whole (state .monitor) → Whole (unitOutcome s state a e unit held done .after .monitor)
 unfolding unitOutcome receivedNormal silence
 leaving-whole s state a e unit held done h =
     by-test (λ (l : UnitOutcome). Whole (l .after .monitor)) (isNormal (a .pointer .state))
@@ -61,7 +61,7 @@ pub call-whole : (s : Shape) (state : State) (c : SinkCall) → Whole (state .mo
 unfolding sink told refusing
 call-whole s state c h =
     outcome-by (λ (o : ReceivedOutcome). Whole (o .received .state .monitor)) (faults s state c)
-    (leaving-whole s state (pointed s (state .pointer) (c .unit)) (c .expected) (c .unit) (c .held) (c .done) h)
+    (leaving-whole s state (pointed s (state .pointer) (c .unit)) (c .settings) (c .unit) (c .held) (c .done) h)
     (λ _. h)
 
 -- ---- the total
@@ -96,13 +96,13 @@ reached-total s calls = calls-keep s freshSink calls (whole-blank 0) (omega arit
 
 -- ---- a call that nothing is wrong with
 
-pub call-done : (s : Shape) (state : State) (c : SinkCall) → sinkOutOfRange s state ≡ false → labelRefused (c .expected .label) ≡ false → traceRefused (c .expected .trace) ≡ false
+pub call-done : (s : Shape) (state : State) (c : SinkCall) → sinkOutOfRange s state ≡ false → labelRefused (c .settings .label) ≡ false → traceRefused (c .settings .trace) ≡ false
     → length (c .unit) ≡ unitLength s → length (c .held) ≡ s .size → length (c .done) ≡ s .size → sinkCalled s state c .received .answer ≡ Done
 call-done s state c o l t u h d =
     let both : (not (eqb (length (c .held)) (s .size)) || not (eqb (length (c .done)) (s .size))) ≡ false = simp (eq-eqb (length (c .held)) (s .size) h, eq-eqb (length (c .done)) (s .size) d) in
     answer-is s state c
-    ∙ sym (nothing-wrong s state (c .expected .label) (c .expected .trace) (length (c .unit)) (length (c .held)) (length (c .done))
-    (sinkOutOfRange s state) refl o (labelRefused (c .expected .label)) refl l (traceRefused (c .expected .trace)) refl t u both)
+    ∙ sym (nothing-wrong s state (c .settings .label) (c .settings .trace) (length (c .unit)) (length (c .held)) (length (c .done))
+    (sinkOutOfRange s state) refl o (labelRefused (c .settings .label)) refl l (traceRefused (c .settings .trace)) refl t u both)
 
 -- it leaves both buffers as long as they were
 module _ (s : Shape) (f : Fit s) (state : State) (c : SinkCall) (d : sinkCalled s state c .received .answer ≡ Done) where
@@ -110,7 +110,7 @@ module _ (s : Shape) (f : Fit s) (state : State) (c : SinkCall) (d : sinkCalled 
   a = pointed s (state .pointer) (c .unit)
 
   lengths : (b : Bool) → isNormal (a .pointer .state) ≡ b
-      → (length (unitOutcome s state a (c .expected) (c .unit) (c .held) (c .done) .held) ≡ s .size) × (length (unitOutcome s state a (c .expected) (c .unit) (c .held) (c .done) .done) ≡ s .size)
+      → (length (unitOutcome s state a (c .settings) (c .unit) (c .held) (c .done) .held) ≡ s .size) × (length (unitOutcome s state a (c .settings) (c .unit) (c .held) (c .done) .done) ≡ s .size)
   unfolding unitOutcome receivedNormal
   lengths true n =
       let k = beginIn s (a .taken) (offsetOf (a .pointer .state)) (state .held) in

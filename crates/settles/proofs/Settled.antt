@@ -37,11 +37,11 @@ use Rattle.settles.proofs.Every.{sent-all, fed-all, number-on, total-al
 record Watching (s : Shape) (r : Run) (place since : ℕ) (x : Path) : Type 0 where
   many : ℕ
   number-is : since + many ≡ x .source .number
-  near : Near (r .expected) ((place + x .source .number) % 16) many (x .state .monitor)
+  near : Near (r .settings) ((place + x .source .number) % 16) many (x .state .monitor)
   parity : (i : ℕ) → suc i ≡ x .source .number → 0 < many → x .state .monitor .parity ≡ keptOf (seenIn (s .columns) (r .box i) .parity)
 
-module _ (s : Shape) (r : Run) (u : Runs s r) (place : ℕ) (g : Setting (r .expected))
-    (like : (j : ℕ) → 0 < j → Sent (s .columns) (r .expected) (r .box) place j) (chain : (j : ℕ) → 0 < j → Chained (s .columns) (r .expected) (r .box) j) (steps : 64 * s .step ≤ s .size)
+module _ (s : Shape) (r : Run) (u : Runs s r) (place : ℕ) (g : Setting (r .settings))
+    (like : (j : ℕ) → 0 < j → Sent (s .columns) (r .settings) (r .box) place j) (chain : (j : ℕ) → 0 < j → Chained (s .columns) (r .settings) (r .box) j) (steps : 64 * s .step ≤ s .size)
   where
     -- the container that is current as the third unit has passed, by which the sink is locked
     since : ℕ
@@ -61,8 +61,8 @@ module _ (s : Shape) (r : Run) (u : Runs s r) (place : ℕ) (g : Setting (r .exp
         record {
           many = h .many + k;
           number-is = omega (arith, h .number-is, number-on s r u n);
-          near = rw (number-on s r u n, monitor-all s r u n w) (near-all (s .columns) (r .expected) (r .box) place (x .source .number) (h .many) k (x .state .monitor) g (λ j l. like j (omega (arith, since-some, h .number-is))) (h .near));
-          parity = rw (number-on s r u n, monitor-all s r u n w) (parity-on (s .columns) (r .expected) (r .box) (x .source .number) (h .many) k (x .state .monitor) (h .parity));
+          near = rw (number-on s r u n, monitor-all s r u n w) (near-all (s .columns) (r .settings) (r .box) place (x .source .number) (h .many) k (x .state .monitor) g (λ j l. like j (omega (arith, since-some, h .number-is))) (h .near));
+          parity = rw (number-on s r u n, monitor-all s r u n w) (parity-on (s .columns) (r .settings) (r .box) (x .source .number) (h .many) k (x .state .monitor) (h .parity));
         }
 
     watching : (j : ℕ) → Watching s r place since (pathAt s r (3 + j))
@@ -71,7 +71,7 @@ module _ (s : Shape) (r : Run) (u : Runs s r) (place : ℕ) (g : Setting (r .exp
         record {
           many = 0;
           number-is = omega arith;
-          near = near-none (r .expected) ((place + numberAt s r u 3) % 16) (pathAt s r 3 .state .monitor) (along s r u 3 .ready .whole);
+          near = near-none (r .settings) ((place + numberAt s r u 3) % 16) (pathAt s r 3 .state .monitor) (along s r u 3 .ready .whole);
           parity = λ i e p. absurd (omega arith);
         }
     watching (suc j) = rw (add-suc 3 j) (watching-on (3 + j) (omega arith) (watching j))
@@ -101,13 +101,13 @@ module _ (s : Shape) (r : Run) (u : Runs s r) (place : ℕ) (g : Setting (r .exp
       pub settled-then : fedAt s r n .received .settled ≡ true
       settled-then =
           settled-all s r u n (omega arith)
-          ∙ near-settled (r .expected) ((place + numberAt s r u (suc n)) % 16) (now .many) (pathAt s r (suc n) .state .monitor) (omega arith) all-watched (now .near)
+          ∙ near-settled (r .settings) ((place + numberAt s r u (suc n)) % 16) (now .many) (pathAt s r (suc n) .state .monitor) (omega arith) all-watched (now .near)
 
       pub free-then : fedAt s r n .received .defects ≡ sink.noDefects
       unfolding pathAt
       free-then =
           defects-is s (u .fit) r (u .set) (pathAt s r n) (r .ask n) (along s r u n .ready) (late s r u n (pathAt s r n) (along s r u n))
-          ∙ near-free (r .expected) ((place + numberAt s r u (suc n)) % 16) (now .many) (pathAt s r (suc n) .state .monitor) (omega arith) all-watched (now .near)
+          ∙ near-free (r .settings) ((place + numberAt s r u (suc n)) % 16) (now .many) (pathAt s r (suc n) .state .monitor) (omega arith) all-watched (now .near)
 
       pub clean-then : violationsTold (fedAt s r n .received .ended) ≡ replicate (sentAt s r n .made .ended) 0
       clean-then =
@@ -119,10 +119,10 @@ module _ (s : Shape) (r : Run) (u : Runs s r) (place : ℕ) (g : Setting (r .exp
 
           go : (i : ℕ) → since + watching-at n (omega arith) .many ≡ i
               → ((j : ℕ) → suc j ≡ i → 0 < watching-at n (omega arith) .many → pathAt s r n .state .monitor .parity ≡ keptOf (seenIn (s .columns) (r .box j) .parity))
-              → violationsAll (s .columns) (r .expected) (pathAt s r n .state .monitor) (boxes (r .box) i (sentAt s r n .made .ended)) ≡ replicate (sentAt s r n .made .ended) 0
+              → violationsAll (s .columns) (r .settings) (pathAt s r n .state .monitor) (boxes (r .box) i (sentAt s r n .made .ended)) ≡ replicate (sentAt s r n .made .ended) 0
           go zero e h = absurd (omega (arith, some))
           go (suc i) e h =
-              none-violated-all (s .columns) (r .expected) (r .box) i (sentAt s r n .made .ended) (pathAt s r n .state .monitor) (λ j l. chain j (omega (arith, since-some, some))) (h i refl some)
+              none-violated-all (s .columns) (r .settings) (r .box) i (sentAt s r n .made .ended) (pathAt s r n .state .monitor) (λ j l. chain j (omega (arith, since-some, some))) (h i refl some)
 
     -- ---- the count of unsettled units
 
@@ -164,10 +164,10 @@ settles noneBefore s m r some f steps i box-is g =
     let place = m .first .place + 15 in
     let label-fine = g .fine .label-fine in
     let trace-fine = g .fine .trace-fine in
-    let made = made-done s f m (r .expected) (i .first-in) label-fine trace-fine (g .given) in
-    let full = box-full s f m (r .expected) (i .first-in) label-fine trace-fine (g .given) (r .box) box-is (g .under-way) in
-    let like = box-like s f m (r .expected) (i .first-in) label-fine trace-fine (g .given) (r .box) box-is in
-    let chain = box-chained s f m (r .expected) (i .first-in) label-fine trace-fine (g .given) (r .box) box-is in
+    let made = made-done s f m (r .settings) (i .first-in) label-fine trace-fine (g .given) in
+    let full = box-full s f m (r .settings) (i .first-in) label-fine trace-fine (g .given) (r .box) box-is (g .under-way) in
+    let like = box-like s f m (r .settings) (i .first-in) label-fine trace-fine (g .given) (r .box) box-is in
+    let chain = box-chained s f m (r .settings) (i .first-in) label-fine trace-fine (g .given) (r .box) box-is in
     let ready : Ready s r (pathAt s r 0) =
     record {
       source-fine = record { offset-low = i .source-in .offset-low; wait-low = i .source-in .wait-low; full = full; unit-is = g .fine .unit-is };
@@ -180,7 +180,7 @@ settles noneBefore s m r some f steps i box-is g =
     in
     let set : Settable r = record { label-fine = label-fine; trace-fine = trace-fine } in
     let u : Runs s r = record { fit = f; set = set; ready = ready; spaced = record { quiet = λ n l. g .spaced .quiet n (omega arith); apart = g .spaced .apart } } in
-    let e : Setting (r .expected) = setting (r .expected) label-fine trace-fine (g .fine .trace-is) in
+    let e : Setting (r .settings) = setting (r .settings) label-fine trace-fine (g .fine .trace-is) in
     record {
       made-done = made;
       sent-done = sent-all s r u;

@@ -16,14 +16,14 @@ use Rattle.container_source_theorems.proofs.Refused.{sendable-source}
 use Rattle.container_source_theorems.proofs.Payload.{length-sent}
 use Rattle.container_source_theorems.proofs.Sequence.{place-at}
 use Rattle.monitor.specs.Seeing.{seenIn}
-use Rattle.monitor.specs.declared.Expected.{Expected}
+use Rattle.settings.specs.declared.Settings.{Settings}
 use Rattle.settles_monitor.specs.Near.{Like}
 use Rattle.settles_monitor.proofs.Sources.{sent-like, sent-b3, sent-parity}
 use Rattle.settles.specs.Demand.{Making, Given}
 use Rattle.settles.proofs.Sources.{made-low}
 use Rattle.settles.proofs.Watched.{Sent, Chained}
 
-module _ (s : Shape) (f : Fit s) (m : Making) (e : Expected) (low : m .first .place ≤ 15)
+module _ (s : Shape) (f : Fit s) (m : Making) (e : Settings) (low : m .first .place ≤ 15)
     (label-fine : labelRefused (e .label) ≡ false) (trace-fine : traceRefused (e .trace) ≡ false) (given : (k : ℕ) → Given s e (m .calls k))
   where
     abbrev state : ℕ → State

@@ -52,8 +52,8 @@ pub record Ready (s : Shape) (r : Run) (x : Path) : Type 0 where
 
 -- settings that no number refuses
 pub record Settable (r : Run) : Type 0 where
-  pub label-fine : labelRefused (r .expected .label) ≡ false
-  pub trace-fine : traceRefused (r .expected .trace) ≡ false
+  pub label-fine : labelRefused (r .settings .label) ≡ false
+  pub trace-fine : traceRefused (r .settings .trace) ≡ false
 
 module _ (s : Shape) (f : Fit s) (r : Run) (set : Settable r) (x : Path) (a : Adjustment) (h : Ready s r x) (late : (adjusts a && ltb (x .source .state .wait) 3) ≡ false) where
   abbrev v : ℕ
@@ -108,14 +108,14 @@ module _ (s : Shape) (f : Fit s) (r : Run) (set : Settable r) (x : Path) (a : Ad
 
   -- what the unit leaves
   abbrev l : UnitOutcome
-  l = unitOutcome s (x .state) t (r .expected) unit (x .held) (x .done)
+  l = unitOutcome s (x .state) t (r .settings) unit (x .held) (x .done)
 
-  fed-is : fed s r x a ≡ record { received = told (t .pointer) (x .state .total) (l .after) (r .expected) (r .flags); held = l .held; done = l .done }
+  fed-is : fed s r x a ≡ record { received = told (t .pointer) (x .state .total) (l .after) (r .settings); held = l .held; done = l .done }
   fed-is =
       called-is s f (x .state) (feeding s r x a) fed-done
       ∙ ap₂ (λ (y : AfterWord) (u : List ℕ).
-      let z = unitOutcome s (x .state) y (r .expected) u (x .held) (x .done) in
-      record { received = told (y .pointer) (x .state .total) (z .after) (r .expected) (r .flags); held = z .held; done = z .done })
+      let z = unitOutcome s (x .state) y (r .settings) u (x .held) (x .done) in
+      record { received = told (y .pointer) (x .state .total) (z .after) (r .settings); held = z .held; done = z .done })
       pointed-is unit-is
 
   pub pointer-after : pathAfter s r x a .state .pointer ≡ t .pointer
@@ -127,10 +127,10 @@ module _ (s : Shape) (f : Fit s) (r : Run) (set : Settable r) (x : Path) (a : Ad
   monitor-left = ap (λ (o : sink.ReceivedOutcome). o .received .state .monitor) fed-is
 
   -- "a unit ends settled if .."
-  pub settled-is : fed s r x a .received .settled ≡ settledOf (isNormal (t .pointer .state)) (pathAfter s r x a .state .monitor) (r .expected)
+  pub settled-is : fed s r x a .received .settled ≡ settledOf (isNormal (t .pointer .state)) (pathAfter s r x a .state .monitor) (r .settings)
   unfolding told
   settled-is =
-      ap (λ (o : sink.ReceivedOutcome). o .received .settled) fed-is ∙ ap (λ (m : Monitor). settledOf (isNormal (t .pointer .state)) m (r .expected)) (sym monitor-left)
+      ap (λ (o : sink.ReceivedOutcome). o .received .settled) fed-is ∙ ap (λ (m : Monitor). settledOf (isNormal (t .pointer .state)) m (r .settings)) (sym monitor-left)
 
   pub total-after : pathAfter s r x a .state .total ≡ totalOf (x .state .total) (fed s r x a .received .settled)
   unfolding pathAfter told
@@ -148,7 +148,7 @@ module _ (s : Shape) (f : Fit s) (r : Run) (set : Settable r) (x : Path) (a : Ad
     abbrev k : Cut
     k = cutIn s (t .taken) (offsetOf (t .pointer .state)) (x .state .held)
 
-    left-is : l ≡ receivedNormal s (t .taken) (offsetOf (t .pointer .state)) (x .state .held) (x .state .monitor) (r .expected) unit (x .held) (x .done)
+    left-is : l ≡ receivedNormal s (t .taken) (offsetOf (t .pointer .state)) (x .state .held) (x .state .monitor) (r .settings) unit (x .held) (x .done)
     unfolding unitOutcome
     left-is = rw n
 
@@ -157,17 +157,17 @@ module _ (s : Shape) (f : Fit s) (r : Run) (set : Settable r) (x : Path) (a : Ad
     held-after = ap (λ (o : sink.ReceivedOutcome). o .held) fed-is ∙ ap (λ (y : UnitOutcome). y .held) left-is
 
     -- the monitor has watched what ended, in order
-    pub monitor-after : pathAfter s r x a .state .monitor ≡ watchedAll (s .columns) (r .expected) (forgot (t .taken) (x .state .monitor)) (endedOf s k unit (x .held))
+    pub monitor-after : pathAfter s r x a .state .monitor ≡ watchedAll (s .columns) (r .settings) (forgot (t .taken) (x .state .monitor)) (endedOf s k unit (x .held))
     unfolding receivedNormal endedOf
     monitor-after =
-        monitor-left ∙ ap (λ (y : UnitOutcome). y .after .monitor) left-is ∙ seen-all s k (completedOf s k unit (x .held)) (insidePart s k unit) (forgot (t .taken) (x .state .monitor)) (r .expected)
+        monitor-left ∙ ap (λ (y : UnitOutcome). y .after .monitor) left-is ∙ seen-all s k (completedOf s k unit (x .held)) (insidePart s k unit) (forgot (t .taken) (x .state .monitor)) (r .settings)
 
-    pub told-after : violationsTold (fed s r x a .received .ended) ≡ violationsAll (s .columns) (r .expected) (forgot (t .taken) (x .state .monitor)) (endedOf s k unit (x .held))
+    pub told-after : violationsTold (fed s r x a .received .ended) ≡ violationsAll (s .columns) (r .settings) (forgot (t .taken) (x .state .monitor)) (endedOf s k unit (x .held))
     unfolding told receivedNormal endedOf
     told-after =
         ap (λ (o : sink.ReceivedOutcome). violationsTold (o .received .ended)) fed-is
         ∙ ap (λ (y : UnitOutcome). violationsTold (y .after .ended)) left-is
-        ∙ told-all s k (completedOf s k unit (x .held)) (insidePart s k unit) (forgot (t .taken) (x .state .monitor)) (r .expected)
+        ∙ told-all s k (completedOf s k unit (x .held)) (insidePart s k unit) (forgot (t .taken) (x .state .monitor)) (r .settings)
 
     pub handed-after : reach.handed s (feeding s r x a) (fed s r x a) ≡ endedOf s k unit (x .held)
     handed-after =
@@ -209,11 +209,11 @@ module _ (s : Shape) (f : Fit s) (r : Run) (set : Settable r) (x : Path) (a : Ad
       pub handed-goes : reach.handed s (feeding s r x a) (fed s r x a) ≡ boxes (r .box) i (endedBy a v)
       handed-goes = handed-after normal ∙ ended-is
 
-      pub monitor-goes : pathAfter s r x a .state .monitor ≡ watchedAll (s .columns) (r .expected) (x .state .monitor) (boxes (r .box) i (endedBy a v))
-      monitor-goes = monitor-after normal ∙ ap₂ (λ (m : Monitor) (cs : List (List ℕ)). watchedAll (s .columns) (r .expected) m cs) forgot-none ended-is
+      pub monitor-goes : pathAfter s r x a .state .monitor ≡ watchedAll (s .columns) (r .settings) (x .state .monitor) (boxes (r .box) i (endedBy a v))
+      monitor-goes = monitor-after normal ∙ ap₂ (λ (m : Monitor) (cs : List (List ℕ)). watchedAll (s .columns) (r .settings) m cs) forgot-none ended-is
 
-      pub told-goes : violationsTold (fed s r x a .received .ended) ≡ violationsAll (s .columns) (r .expected) (x .state .monitor) (boxes (r .box) i (endedBy a v))
-      told-goes = told-after normal ∙ ap₂ (λ (m : Monitor) (cs : List (List ℕ)). violationsAll (s .columns) (r .expected) m cs) forgot-none ended-is
+      pub told-goes : violationsTold (fed s r x a .received .ended) ≡ violationsAll (s .columns) (r .settings) (x .state .monitor) (boxes (r .box) i (endedBy a v))
+      told-goes = told-after normal ∙ ap₂ (λ (m : Monitor) (cs : List (List ℕ)). violationsAll (s .columns) (r .settings) m cs) forgot-none ended-is
 
 -- ---- a unit with no adjustment, taken by rule 3 at the source's offset
 

@@ -12,12 +12,12 @@ use Rattle.overhead.specs.Violations.{violationsOf, keptOf}
 use Rattle.monitor.specs.Seeing.{seenIn}
 use Rattle.monitor.specs.Monitoring.{monitorStep}
 use Rattle.monitor.specs.declared.Monitor.{Monitor}
-use Rattle.monitor.specs.declared.Expected.{Expected}
+use Rattle.settings.specs.declared.Settings.{Settings}
 use Rattle.settles_monitor.specs.Near.{Setting, Like}
 use Rattle.settles_monitor.proofs.Settles.{Near, near-step, parity-kept, none-violated}
 use Rattle.settles_stream.specs.InOrder.{boxes, watchedAll, violationsAll}
 
-module _ (columns : ℕ) (e : Expected) (box : ℕ → List ℕ) where
+module _ (columns : ℕ) (e : Settings) (box : ℕ → List ℕ) where
   -- container j carries what is expected, and the byte of the message that is then due: the one at `place` in container 0
   abbrev pub Sent : ℕ → ℕ → Type 0
   Sent place j = Like e ((place + j) % 16) (seenIn columns (box j))

@@ -26,8 +26,8 @@ use Rattle.unit_source.specs.declared.State as unit-source-state
 use Rattle.unit_source.specs.declared.Made.{Made}
 use Rattle.unit_source_theorems.specs.Stream as stream
 use Rattle.settles_stream.specs.InOrder.{boxes, violationsTold}
-use Rattle.monitor.specs.declared.Expected.{Expected}
-use Rattle.unit_end.specs.declared.Flags.{Flags}
+use Rattle.settings.specs.declared.Settings.{Settings}
+use Rattle.settings.specs.declared.Flags.{Flags}
 use Rattle.sink.specs.Sink as sink
 use Rattle.sink.specs.declared.State as sink-state
 use Rattle.sink.specs.declared.Received.{Received}
@@ -44,7 +44,7 @@ pub record Making : Type 0 where
 pub record Run : Type 0 where
   pub box : ℕ → List ℕ
   pub ask : ℕ → Adjustment
-  pub expected : Expected
+  pub expected : Settings
   pub flags : Flags
   pub source : unit-source-state.State
   pub state : sink-state.State
@@ -66,7 +66,7 @@ module _ (s : Shape) (r : Run) where
 
   -- and the sink is fed it
   abbrev pub feeding : Path → Adjustment → reach.SinkCall
-  feeding x a = record { expected = r .expected; flags = r .flags; unit = sent x a .unit; held = x .held; done = x .done }
+  feeding x a = record { settings = r .settings; unit = sent x a .unit; held = x .held; done = x .done }
 
   abbrev pub fed : Path → Adjustment → sink.ReceivedOutcome
   fed x a = reach.sinkCalled s (x .state) (feeding x a)
@@ -131,7 +131,7 @@ endedFrom made n (suc m) = made n .ended + endedFrom made (suc n) m
 module _ (s : Shape) (r : Run) (path : ℕ → Path) (received : ℕ → Received) where
   -- the call that fed unit n to the sink, and what it left
   abbrev pub callAt : ℕ → reach.SinkCall
-  callAt n = record { expected = r .expected; flags = r .flags; unit = path (suc n) .source .unit; held = path n .held; done = path n .done }
+  callAt n = record { settings = r .settings; unit = path (suc n) .source .unit; held = path n .held; done = path n .done }
 
   abbrev pub leftAt : ℕ → sink.ReceivedOutcome
   leftAt n = record { received = received n; held = path (suc n) .held; done = path (suc n) .done }
@@ -169,7 +169,7 @@ pub record Reached (s : Shape) (m : Making) (r : Run) : Type 0 where
   pub first-is : m .first ≡ sending.stateAt s container-source.freshContainerSource made many
 
 -- "that sends the label and trace expected and no remote defect": any payload, any other overhead, any violations that can be returned
-pub record Given (s : Shape) (e : Expected) (c : sending.ContainerSourceCall) : Type 0 where
+pub record Given (s : Shape) (e : Settings) (c : sending.ContainerSourceCall) : Type 0 where
   pub label-is : c .given .label ≡ e .label
   pub trace-is : c .trace ≡ e .trace
   pub no-remote : c .given .remote ≡ false
@@ -184,9 +184,9 @@ pub record Spaced (noneBefore : ℕ) (ask : ℕ → Adjustment) : Type 0 where
 
 -- "settings and buffer lengths that no number refuses"; a trace has 15 characters by its type
 pub record Fine (s : Shape) (r : Run) : Type 0 where
-  pub label-fine : labelRefused (r .expected .label) ≡ false
-  pub trace-fine : traceRefused (r .expected .trace) ≡ false
-  pub trace-is : length (r .expected .trace) ≡ 15
+  pub label-fine : labelRefused (r .settings .label) ≡ false
+  pub trace-fine : traceRefused (r .settings .trace) ≡ false
+  pub trace-is : length (r .settings .trace) ≡ 15
   pub unit-is : length (r .unit) ≡ unitLength s
   pub held-is : length (r .held) ≡ s .size
   pub done-is : length (r .done) ≡ s .size
@@ -200,7 +200,7 @@ pub record Good (noneBefore : ℕ) (s : Shape) (m : Making) (r : Run) : Type 0 w
   pub fine : Fine s r
   -- container 0 is under way as the run begins: it was made before, and its bytes may be any, of another label or trace too
   pub under-way : length (r .box 0) ≡ s .size
-  pub given : (k : ℕ) → Given s (r .expected) (m .calls k)
+  pub given : (k : ℕ) → Given s (r .settings) (m .calls k)
   pub spaced : Spaced noneBefore (r .ask)
 
 -- ---- what then holds

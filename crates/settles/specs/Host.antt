@@ -22,7 +22,7 @@ pub record Host (s : Shape) (m : Making) (r : Run) (g : Log) : Type 0 where
   pub number-next : (n : ℕ) → g .path (suc n) .source .number ≡ g .path n .source .number + g .made n .ended
   -- the sink is fed the unit, and the buffers that it left before
   pub receives : (n : ℕ)
-      → Receives s (g .path n .state) (r .expected) (r .flags) (g .path (suc n) .source .unit) (g .path n .held) (g .path n .done) (g .received n) (g .path (suc n) .held) (g .path (suc n) .done)
+      → Receives s (g .path n .state) (r .settings) (g .path (suc n) .source .unit) (g .path n .held) (g .path n .done) (g .received n) (g .path (suc n) .held) (g .path (suc n) .done)
   pub state-next : (n : ℕ) → g .path (suc n) .state ≡ g .received n .state
 
 -- the demand of its log; that it gives the source its containers in order is its own doing

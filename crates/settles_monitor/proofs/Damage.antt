@@ -7,7 +7,7 @@ use lib.Dec.{eqb}
 use borrow.Author.Tests.{ne-eqb}
 use Rattle.overhead.specs.Defects.{remoteOf}
 use Rattle.monitor.specs.declared.Overhead.{Overhead}
-use Rattle.monitor.specs.declared.Expected.{Expected}
+use Rattle.settings.specs.declared.Settings.{Settings}
 use Rattle.monitor.specs.declared.Monitor.{Monitor}
 use Rattle.monitor.specs.Monitoring.{monitorStep}
 use Rattle.unit_end.specs.Report.{defectsOf, settledOf}
@@ -18,14 +18,14 @@ use Rattle.settles_monitor.proofs.Strays as strays
 use Rattle.settles_monitor.proofs.Settles.{Near, Calm, calm-free, calm-settled}
 
 -- after the damage, the next container with the byte at place i; the parity is not in it
-pub record Loose (e : Expected) (i : ℕ) (m : Monitor) : Type 0 where
+pub record Loose (e : Settings) (i : ℕ) (m : Monitor) : Type 0 where
   pub label : labels.Accepted (e .label) (m .label)
   pub uneq : m .uneq .stands ≡ false
   pub rdi : m .rdi .stands ≡ false
   pub trace : strays.Loose (e .trace) i (m .trace)
 
 -- the damaged container
-pub damaged : (e : Expected) (i k : ℕ) (m : Monitor) (c : Overhead) → i < 16 → enough ≤ k → Near e i k m → Loose e ((i + 1) % 16) (monitorStep m c e)
+pub damaged : (e : Settings) (i k : ℕ) (m : Monitor) (c : Overhead) → i < 16 → enough ≤ k → Near e i k m → Loose e ((i + 1) % 16) (monitorStep m c e)
 unfolding monitorStep
 damaged e i k m c w h n =
     record {
@@ -36,7 +36,7 @@ damaged e i k m c w h n =
     }
 
 -- one such as before
-pub loose-step : (e : Expected) (i : ℕ) (m : Monitor) (c : Overhead) → Setting e → i < 16 → Like e i c → Loose e i m → Loose e ((i + 1) % 16) (monitorStep m c e)
+pub loose-step : (e : Settings) (i : ℕ) (m : Monitor) (c : Overhead) → Setting e → i < 16 → Like e i c → Loose e i m → Loose e ((i + 1) % 16) (monitorStep m c e)
 unfolding monitorStep
 loose-step e i m c s w l n =
     record {
@@ -48,7 +48,7 @@ loose-step e i m c s w l n =
 
 -- ---- settled all the while
 
-module _ (e : Expected) (i : ℕ) (m : Monitor) (n : Loose e i m) where
+module _ (e : Settings) (i : ℕ) (m : Monitor) (n : Loose e i m) where
   loose-calm : Calm e m
   loose-calm = record { label = n .label; uneq = n .uneq; rdi = n .rdi; trace = strays.loose-accepted (e .trace) i (m .trace) (n .trace) }
 

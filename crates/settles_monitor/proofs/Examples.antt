@@ -10,14 +10,14 @@ use Rattle.overhead.specs.Labels.{fits, labelOf}
 use Rattle.overhead.specs.Defects.{defectOf, remoteOf}
 use Rattle.trace_monitor.specs.Trace.{gatheredOf, endsGood, spoils, withGood, withoutGood, traceOf, blankTrace}
 use Rattle.monitor.specs.declared.Overhead.{Overhead}
-use Rattle.monitor.specs.declared.Expected.{Expected}
+use Rattle.settings.specs.declared.Settings.{Settings}
 use Rattle.monitor.specs.declared.Monitor.{Monitor}
 use Rattle.monitor.specs.Monitoring.{blankOf, monitorStep}
 use Rattle.unit_end.specs.Report.{defectsOf, noneStands, labelExpected, traceExpected, settledOf}
 use Rattle.settles_monitor.specs.Near.{enough, Like}
 
 -- label 12, and a trace of fifteen A
-abbrev pub settings : Expected
+abbrev pub settings : Settings
 settings = record { label = 0x12; trace = replicate 15 0x41 }
 
 -- a container of zeros but for its label and J1

@@ -16,7 +16,7 @@ use Rattle.trace_message.proofs.Alike.{same-alike}
 use Rattle.overhead.specs.Violations.{violationsOf, keptOf}
 use Rattle.trace_monitor.specs.Trace.{blankTrace}
 use Rattle.monitor.specs.declared.Overhead.{Overhead}
-use Rattle.monitor.specs.declared.Expected.{Expected}
+use Rattle.settings.specs.declared.Settings.{Settings}
 use Rattle.monitor.specs.declared.Monitor.{Monitor}
 use Rattle.monitor.specs.Monitoring.{blankOf, monitorStep}
 use Rattle.unit_end.specs.Report.{defectsOf, noneStands, labelExpected, traceExpected, settledOf}
@@ -40,7 +40,7 @@ clear-of (b ∷ bs) h =
     rw (lt-ltb b 0x80 (omega (arith, ltb-false 0x7e b (q .1)))) (clear-of bs (p .1))
 
 -- settings that no number refuses
-pub setting : (e : Expected) → labelRefused (e .label) ≡ false → traceRefused (e .trace) ≡ false → length (e .trace) ≡ 15 → Setting e
+pub setting : (e : Settings) → labelRefused (e .label) ≡ false → traceRefused (e .trace) ≡ false → length (e .trace) ≡ 15 → Setting e
 unfolding labelRefused
 setting e l t n =
     record {
@@ -52,7 +52,7 @@ setting e l t n =
 -- ---- 15 places
 
 -- every container leaves the message its places
-pub whole-step : (m : Monitor) (c : Overhead) (e : Expected) → Whole m → Whole (monitorStep m c e)
+pub whole-step : (m : Monitor) (c : Overhead) (e : Settings) → Whole m → Whole (monitorStep m c e)
 unfolding monitorStep
 whole-step m c e h = traces.trace-whole (m .trace) (c .j1) (e .trace) h
 
@@ -69,14 +69,14 @@ whole-forgot t m h = by-test Whole (restarts t) (λ _. h) (λ _. h)
 -- ---- how near the monitor is
 
 -- after k such containers in turn, the next with the byte at place i; the parity is not in it
-pub record Near (e : Expected) (i k : ℕ) (m : Monitor) : Type 0 where
+pub record Near (e : Settings) (i k : ℕ) (m : Monitor) : Type 0 where
   pub label : labels.Near (e .label) k (m .label)
   pub uneq : defects.Near k (m .uneq)
   pub rdi : defects.Near k (m .rdi)
   pub trace : traces.Near (e .trace) i k (m .trace)
 
 -- any state whose message has its 15 places, before the first
-pub near-none : (e : Expected) (i : ℕ) (m : Monitor) → Whole m → Near e i 0 m
+pub near-none : (e : Settings) (i : ℕ) (m : Monitor) → Whole m → Near e i 0 m
 near-none e i m h =
     record {
       label = labels.near-none (e .label) (m .label);
@@ -86,7 +86,7 @@ near-none e i m h =
     }
 
 -- one container
-pub near-step : (e : Expected) (i k : ℕ) (m : Monitor) (c : Overhead) → Setting e → i < 16 → Like e i c → Near e i k m → Near e ((i + 1) % 16) (k + 1) (monitorStep m c e)
+pub near-step : (e : Settings) (i k : ℕ) (m : Monitor) (c : Overhead) → Setting e → i < 16 → Like e i c → Near e i k m → Near e ((i + 1) % 16) (k + 1) (monitorStep m c e)
 unfolding monitorStep
 near-step e i k m c s w l n =
     record {
@@ -99,19 +99,19 @@ near-step e i k m c s w l n =
 -- ---- settled
 
 -- what the report asks of each part
-pub record Calm (e : Expected) (m : Monitor) : Type 0 where
+pub record Calm (e : Settings) (m : Monitor) : Type 0 where
   pub label : labels.Accepted (e .label) (m .label)
   pub uneq : m .uneq .stands ≡ false
   pub rdi : m .rdi .stands ≡ false
   pub trace : traces.Accepted (e .trace) (m .trace)
 
 -- "none of the four defects stands"
-pub calm-free : (e : Expected) (m : Monitor) → Calm e m → defectsOf m ≡ record { uneq = false; tim = false; plm = false; rdi = false }
+pub calm-free : (e : Settings) (m : Monitor) → Calm e m → defectsOf m ≡ record { uneq = false; tim = false; plm = false; rdi = false }
 unfolding defectsOf
 calm-free e m c = rw (c .uneq, c .trace .tim, c .label .plm, c .rdi)
 
 -- and "accepted label and trace are the expected ones"
-pub calm-settled : (e : Expected) (m : Monitor) → Calm e m → settledOf true m e ≡ true
+pub calm-settled : (e : Settings) (m : Monitor) → Calm e m → settledOf true m e ≡ true
 unfolding settledOf noneStands labelExpected traceExpected
 calm-settled e m c =
     rw (
@@ -126,7 +126,7 @@ calm-settled e m c =
 
 -- ---- 63 or more
 
-module _ (e : Expected) (i k : ℕ) (m : Monitor) (w : i < 16) (h : enough ≤ k) (n : Near e i k m) where
+module _ (e : Settings) (i k : ℕ) (m : Monitor) (w : i < 16) (h : enough ≤ k) (n : Near e i k m) where
   near-calm : Calm e m
   near-calm =
       record {
@@ -147,7 +147,7 @@ module _ (e : Expected) (i k : ℕ) (m : Monitor) (w : i < 16) (h : enough ≤ k
 -- ---- parity
 
 -- a container leaves its own parity
-pub parity-kept : (m : Monitor) (c : Overhead) (e : Expected) → monitorStep m c e .parity ≡ keptOf (c .parity)
+pub parity-kept : (m : Monitor) (c : Overhead) (e : Settings) → monitorStep m c e .parity ≡ keptOf (c .parity)
 unfolding monitorStep
 parity-kept m c e = refl
 

@@ -12,7 +12,7 @@ use Rattle.container_source.specs.declared.State.{State}
 use Rattle.container_source_theorems.specs.Run.{ContainerSourceCall, containerSourceCalled}
 use Rattle.container_source_theorems.proofs.Sequence.{overhead-sent, next-parity}
 use Rattle.overhead.specs.Defects.{remoteOf}
-use Rattle.monitor.specs.declared.Expected.{Expected}
+use Rattle.settings.specs.declared.Settings.{Settings}
 use Rattle.monitor.specs.Seeing.{seenIn}
 use Rattle.settles_monitor.specs.Near.{Like}
 
@@ -25,7 +25,7 @@ no-remote v = ne-eqb ((v * 16 + 0) / 8 % 2) 1 (λ e. absurd (omega arith))
 module _ (s : Shape) (f : Fit s) (state : State) (c : ContainerSourceCall) (done : containerSourceCalled s state c .sent .answer ≡ Done) where
   -- with the settings expected and no remote defect
   pub sent-like :
-      (e : Expected) → c .given .label ≡ e .label → c .trace ≡ e .trace → c .given .remote ≡ false
+      (e : Settings) → c .given .label ≡ e .label → c .trace ≡ e .trace → c .given .remote ≡ false
       → Like e (state .place) (seenIn (s .columns) (containerSourceCalled s state c .container))
   unfolding seenIn overheadOf j1Of
   sent-like e l t r =

@@ -7,7 +7,7 @@ use lib.ListN.{length, getD}
 use Rattle.trace_message.specs.Message.{message, topBitsClear}
 use Rattle.overhead.specs.Defects.{remoteOf}
 use Rattle.monitor.specs.declared.Overhead.{Overhead}
-use Rattle.monitor.specs.declared.Expected.{Expected}
+use Rattle.settings.specs.declared.Settings.{Settings}
 use Rattle.monitor.specs.declared.Monitor.{Monitor}
 
 -- the containers of one message sent over and over after which the monitor is settled: up to 15 stray bytes, and three messages
@@ -15,13 +15,13 @@ abbrev pub enough : ℕ
 enough = 63
 
 -- settings that no number refuses, as the monitor needs them: a label other than 00, and 15 characters with top bit 0
-pub record Setting (e : Expected) : Type 0 where
+pub record Setting (e : Settings) : Type 0 where
   pub label : e .label ≡ 0 → ⊥
   pub size : length (e .trace) ≡ 15
   pub low : topBitsClear (e .trace) ≡ true
 
 -- a container with the label expected, no remote defect, and the byte at place i of the message in J1
-pub record Like (e : Expected) (i : ℕ) (c : Overhead) : Type 0 where
+pub record Like (e : Settings) (i : ℕ) (c : Overhead) : Type 0 where
   pub label : c .c2 ≡ e .label
   pub remote : remoteOf (c .g1) ≡ false
   pub byte : c .j1 ≡ getD (message (e .trace)) i 0

@@ -8,12 +8,12 @@ use Rattle.cut.specs.Cut.{oneIf, endedCount}
 use Rattle.cut.specs.declared.Cut.{Cut}
 use Rattle.monitor.specs.Monitoring.{seenOf}
 use Rattle.monitor.specs.declared.Monitor.{Monitor}
-use Rattle.monitor.specs.declared.Expected.{Expected}
+use Rattle.settings.specs.declared.Settings.{Settings}
 use Rattle.receiving.specs.Receiving.{watched, endedIn, bothSeen}
 use Rattle.settles_stream.specs.InOrder.{watchedAll, violationsAll, violationsTold}
 
 -- whether or not each of the two ended
-module _ (columns : ℕ) (completed inside : List ℕ) (m : Monitor) (e : Expected) where
+module _ (columns : ℕ) (completed inside : List ℕ) (m : Monitor) (e : Settings) where
   watched-by : (a b : Bool)
       → watched b columns inside e (watched a columns completed e m .monitor) .monitor ≡ watchedAll columns e m (oneIf a completed ++ oneIf b inside)
   unfolding watched seenOf watchedAll
@@ -41,7 +41,7 @@ module _ (columns : ℕ) (completed inside : List ℕ) (m : Monitor) (e : Expect
   told-by false true number place = refl
   told-by false false number place = refl
 
-module _ (s : Shape) (c : Cut) (completed inside : List ℕ) (m : Monitor) (e : Expected) where
+module _ (s : Shape) (c : Cut) (completed inside : List ℕ) (m : Monitor) (e : Settings) where
   -- "per container, in order": the monitor after the unit
   pub seen-all : bothSeen s c completed inside m e .monitor ≡ watchedAll (s .columns) e m (oneIf (c .ends) completed ++ oneIf (c .inside) inside)
   unfolding bothSeen

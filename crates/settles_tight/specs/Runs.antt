@@ -26,7 +26,7 @@ worst = run 14 twice (reached au4 [])
 -- The sink was locked at 0, took new data there, and then two plain units, so that its wait is 2. 0 and 782 differ in three I and two D bits: the second unit of the run, at 782,
 -- is taken for an increment. The increment of the fifth then comes too early for the sink, and so does each adjustment after it, up and down in turn every four units.
 abbrev pub feeding : ℕ → SinkCall
-feeding h1 = record { expected = expected; flags = flags; unit = h1 ∷ replicate 2357 0; held = replicate 2349 0; done = replicate 2349 0 }
+feeding h1 = record { settings = settings; unit = h1 ∷ replicate 2357 0; held = replicate 2349 0; done = replicate 2349 0 }
 
 abbrev pub before : List SinkCall
 before = feeding 0x68 ∷ feeding 0x68 ∷ feeding 0x68 ∷ feeding 0x98 ∷ feeding 0x68 ∷ feeding 0x68 ∷ []

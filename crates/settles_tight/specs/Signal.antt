@@ -11,8 +11,8 @@ use Rattle.container_source.specs.Overhead.{j1Of}
 use Rattle.container_source.specs.Source.{containerSent}
 use Rattle.container_source.specs.declared.Given.{Given}
 use Rattle.container_source_theorems.specs.Run as sending
-use Rattle.monitor.specs.declared.Expected.{Expected}
-use Rattle.unit_end.specs.declared.Flags.{Flags}
+use Rattle.settings.specs.declared.Settings.{Settings}
+use Rattle.settings.specs.declared.Flags.{Flags}
 use Rattle.sink.specs.declared.State.{State}
 use Rattle.settles.specs.Demand.{Run, Making, Asked}
 
@@ -20,7 +20,7 @@ use Rattle.settles.specs.Demand.{Run, Making, Asked}
 unfoldable pub trace : List ℕ
 trace = 0x30 ∷ 0x33 ∷ 0x45 ∷ 0x35 ∷ replicate 11 0x20
 
-abbrev pub expected : Expected
+abbrev pub expected : Settings
 expected = record { label = 0x12; trace = trace }
 
 abbrev pub flags : Flags

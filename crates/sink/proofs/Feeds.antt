@@ -22,15 +22,21 @@ use Rattle.pointer.specs.declared.AfterWord.{AfterWord}
 use Rattle.pointer.proofs.Ranges.{offset-low, step-in-range}
 use Rattle.cut.specs.Cut.{Line}
 use Rattle.cut.proofs.Lines.{line-goes, line-restarts}
-use Rattle.monitor.specs.declared.Expected.{Expected}
+use Rattle.settings.specs.declared.Settings.{Settings}
 use Rattle.receiving.specs.Receiving.{UnitOutcome, beginIn, fromIn, silence, Receivable, NormalOutcomeIs}
 use Rattle.receiving.specs.declared.AfterUnit.{AfterUnit}
-use Rattle.unit_end.specs.Report.{defectsOf, ssfOf, actionsOf, causesOf, settledOf, totalOf}
-use Rattle.unit_end.specs.declared.Flags.{Flags}
+use Rattle.unit_end.specs.Terms.{has, orAny, andAll, andNone, termination}
+use Rattle.unit_end.specs.Actions.{defectsOf, ssfOf, actionsOf, causesOf}
+use Rattle.unit_end.specs.Settled.{settledOf, totalOf}
+use Rattle.settings.specs.Flags.{flagsOf}
+use Rattle.settings.specs.declared.Flags.{Flags}
+use Rattle.trace_monitor.specs.Trace.{blankTrace}
+use Rattle.monitor.specs.Monitoring.{blankOf}
 use Rattle.unit_end.specs.declared.Defects.{Defects}
 use Rattle.unit_end.specs.declared.Actions.{Actions}
 use Rattle.unit_end.specs.declared.Causes.{Causes}
-use Rattle.sink.specs.Sink.{sinkFaults, wordIn, pointed, unitOutcome, told, refusing, ReceivedOutcome, sink, ReceivesAs, Receives, Fed, Pointed, UnitOutcomeIs}
+use Rattle.sink.specs.Sink.{sinkFaults, wordIn, pointed, unitOutcome, told, refusing, ReceivedOutcome, sink, ReceivesAs, Receives}
+use Rattle.sink.specs.Inner.{Fed, Pointed, UnitOutcomeIs}
 use Rattle.sink.specs.declared.State.{State}
 use Rattle.sink.specs.declared.Received.{Received}
 use Rattle.sink.proofs.Refuses.{Ranged, ranged, numbered, fed}
@@ -70,14 +76,14 @@ module _ (s : Shape) (state : State) (a : AfterWord) (unit held done : List ℕ)
       }
 
   -- what it leaves
-  pub leaves-normal : (e : Expected) (n : Bool) (offset : ℕ) (r : AfterUnit) (held′ done′ : List ℕ)
+  pub leaves-normal : (e : Settings) (n : Bool) (offset : ℕ) (r : AfterUnit) (held′ done′ : List ℕ)
       → n ≡ pointer.isNormal (a .pointer .state) → n ≡ true → offset ≡ pointer.offsetOf (a .pointer .state)
       → NormalOutcomeIs s (a .taken) offset (state .held) (state .monitor) e unit held done r held′ done′
       → UnitOutcomeIs s state a e unit held done r held′ done′
   unfolding unitOutcome
   leaves-normal e n offset r held′ done′ n-is h o l = rw (← n-is, h, ← o) l
 
-  pub leaves-silence : (e : Expected) (n : Bool) (r : AfterUnit) → n ≡ pointer.isNormal (a .pointer .state) → n ≡ false → r ≡ silence
+  pub leaves-silence : (e : Settings) (n : Bool) (r : AfterUnit) → n ≡ pointer.isNormal (a .pointer .state) → n ≡ false → r ≡ silence
       → UnitOutcomeIs s state a e unit held done r held done
   unfolding unitOutcome
   leaves-silence e n r n-is h r-is = rw (← n-is, h, r-is) refl
@@ -96,11 +102,11 @@ ssf-is (Normal v) = refl
 ssf-is Alarm = refl
 ssf-is Lost = refl
 
-pub unit-told : (p : Pointer) (total : ℕ) (left : AfterUnit) (e : Expected) (flags : Flags)
+pub unit-told : (p : Pointer) (total : ℕ) (left : AfterUnit) (e : Settings)
     (normal alarm settled : Bool) (defects : Defects) (actions : Actions) (causes : Causes) (after : ℕ)
     → normal ≡ pointer.isNormal (p .state) → alarm ≡ pointer.isAlarm (p .state) → defects ≡ defectsOf (left .monitor)
     → settled ≡ settledOf normal (left .monitor) e → after ≡ totalOf total settled
-    → actions ≡ actionsOf (not normal) defects → causes ≡ causesOf alarm (not normal && not alarm) defects flags
+    → actions ≡ actionsOf termination (not normal) defects → causes ≡ causesOf termination alarm (not normal && not alarm) defects (e .flags)
     → record {
       answer = Done;
       state = record { pointer = p; held = left .held; monitor = left .monitor; total = after };
@@ -110,40 +116,41 @@ pub unit-told : (p : Pointer) (total : ℕ) (left : AfterUnit) (e : Expected) (f
       causes = causes;
       settled = settled;
     }
-    ≡ told p total left e flags
+    ≡ told p total left e
 unfolding told
-unit-told p total left e flags normal alarm settled defects actions causes after n a d s t c k =
+unit-told p total left e normal alarm settled defects actions causes after n a d s t c k =
     let lost = ap (λ (b : Bool). not b && not (pointer.isAlarm (p .state))) n ∙ lost-is (p .state) in
     let ssf = ap not n ∙ ssf-is (p .state) in
     rw (k, c, t, s, d, a, lost, ssf, n) refl
 
-pub told-none : (state : State) (x : Refusal) (none : AfterUnit) → none ≡ silence
+pub told-none : (state : State) (x : Refusal) (none : AfterUnit) (defects : Defects) (actions : Actions) (f : Flags) (causes : Causes)
+    → none ≡ silence → defects ≡ defectsOf (none .monitor) → f ≡ flagsOf 0 → actions ≡ actionsOf termination false defects → causes ≡ causesOf termination false false defects f
     → record {
       answer = Refused x;
       state = state;
       ended = none .ended;
-      actions = record { ssf = false; tsf = false; ais = false; rdi = false };
-      defects = record { uneq = false; tim = false; plm = false; rdi = false };
-      causes = record { ais = false; lop = false; ssf = false; uneq = false; tim = false; rdi = false; plm = false };
+      actions = actions;
+      defects = defects;
+      causes = causes;
       settled = false;
     }
     ≡ refusing state x
-unfolding refusing
-told-none state x none h = rw h refl
+unfolding refusing silence blankOf blankTrace flagsOf defectsOf actionsOf causesOf has orAny andAll andNone
+told-none state x none defects actions f causes h d g a c = rw (a, c, g, d, h) refl
 
 -- ---- the call
 
-module _ (s : Shape) (state : State) (e : Expected) (flags : Flags) (unit held done : List ℕ)
-    (r : Answer) (r-is : r ≡ answerOf (sinkFaults s state (e .label) (e .trace) (length unit) (length held) (length done)))
+module _ (s : Shape) (state : State) (e : Settings) (unit held done : List ℕ)
+    (r : Answer) (r-is : r ≡ answerOf (sinkFaults s state e (length unit) (length held) (length done)))
   where
-    pub feed-refused : (x : Refusal) (q : Received) → r ≡ Refused x → q ≡ refusing state x → ReceivesAs s state e flags unit held done q held done
+    pub feed-refused : (x : Refusal) (q : Received) → r ≡ Refused x → q ≡ refusing state x → ReceivesAs s state e unit held done q held done
     unfolding sink
     feed-refused x q h q-is =
-        rw (outcome-refused (sinkFaults s state (e .label) (e .trace) (length unit) (length held) (length done)) _ _ x (sym r-is ∙ h), q-is) refl
+        rw (outcome-refused (sinkFaults s state e (length unit) (length held) (length done)) _ _ x (sym r-is ∙ h), q-is) refl
 
     -- nothing is wrong with it
     pub feed-fine : r ≡ Done → Fed s state (length unit) (length held) (length done)
-    feed-fine h = fed s state (e .label) (e .trace) (length unit) (length held) (length done) (sym r-is ∙ h)
+    feed-fine h = fed s state e (length unit) (length held) (length done) (sym r-is ∙ h)
 
     -- so that its word is there
     pub word-there : Fit s → r ≡ Done → s .step < length unit
@@ -153,27 +160,27 @@ module _ (s : Shape) (state : State) (e : Expected) (flags : Flags) (unit held d
       pub feed-pointed : Fit s → Pointed s state a unit held done
       feed-pointed f = record { fit = f; fed = feed-fine h; after-is = a-is }
 
-      pub feed-done : (left : AfterUnit) (held′ done′ : List ℕ) (q : Received) → UnitOutcomeIs s state a e unit held done left held′ done′ → q ≡ told (a .pointer) (state .total) left e flags
-          → ReceivesAs s state e flags unit held done q held′ done′
+      pub feed-done : (left : AfterUnit) (held′ done′ : List ℕ) (q : Received) → UnitOutcomeIs s state a e unit held done left held′ done′ → q ≡ told (a .pointer) (state .total) left e
+          → ReceivesAs s state e unit held done q held′ done′
       unfolding sink
       feed-done left held′ done′ q l q-is =
           let left-is = ap (λ (x : UnitOutcome). x .after) l in
           let held-is = ap (λ (x : UnitOutcome). x .held) l in
           let done-is = ap (λ (x : UnitOutcome). x .done) l in
-          rw (outcome-done (sinkFaults s state (e .label) (e .trace) (length unit) (length held) (length done)) _ _ (sym r-is ∙ h), ← a-is, ← left-is, ← held-is, ← done-is, q-is) refl
+          rw (outcome-done (sinkFaults s state e (length unit) (length held) (length done)) _ _ (sym r-is ∙ h), ← a-is, ← left-is, ← held-is, ← done-is, q-is) refl
 
 -- the answer says the table's number
-pub feed-said : (s : Shape) (state : State) (e : Expected) (flags : Flags) (unit held done : List ℕ) (r : Received) (held′ done′ : List ℕ)
-    → ReceivesAs s state e flags unit held done r held′ done′ → Receives s state e flags unit held done r held′ done′
+pub feed-said : (s : Shape) (state : State) (e : Settings) (unit held done : List ℕ) (r : Received) (held′ done′ : List ℕ)
+    → ReceivesAs s state e unit held done r held′ done′ → Receives s state e unit held done r held′ done′
 unfolding sink told refusing
-feed-said s state e flags unit held done r held′ done′ p =
-    let n = numbered s state (e .label) (e .trace) (length unit) (length held) (length done) in
+feed-said s state e unit held done r held′ done′ p =
+    let n = numbered s state e (length unit) (length held) (length done) in
     record {
       number-is = ap (λ (o : ReceivedOutcome). answerSays (o .received .answer)) p ∙ outcome-said (λ (o : ReceivedOutcome). o .received .answer) _ _ _ n refl (λ x. refl);
       outcome-is = p;
     }
 
 -- the shape is fixed by the entry point
-pub feed-as : (s t : Shape) (state : State) (e : Expected) (flags : Flags) (unit held done : List ℕ) (r : Received) (held′ done′ : List ℕ)
-    → s ≡ t → ReceivesAs s state e flags unit held done r held′ done′ → Receives t state e flags unit held done r held′ done′
-feed-as s t state e flags unit held done r held′ done′ h p = feed-said t state e flags unit held done r held′ done′ (rw h at p)
+pub feed-as : (s t : Shape) (state : State) (e : Settings) (unit held done : List ℕ) (r : Received) (held′ done′ : List ℕ)
+    → s ≡ t → ReceivesAs s state e unit held done r held′ done′ → Receives t state e unit held done r held′ done′
+feed-as s t state e unit held done r held′ done′ h p = feed-said t state e unit held done r held′ done′ (rw h at p)

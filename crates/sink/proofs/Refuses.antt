@@ -1,23 +1,28 @@
 -- Laws of what the sink refuses: its answer is the first thing wrong with the call, and a call that is done had nothing wrong with it. Assumes nothing.
 use mathlib.Core.Path.{_≡_, refl, sym, _∙_}
 use mathlib.Core.Bool.{Bool, true, false, not, _||_}
-use mathlib.Core.List.{List}
+use mathlib.Core.List.{List, _++_}
 use Prim.Native.Nat.{ℕ, _≤_}
 use lib.Dec.{eqb}
 use borrow.Author.Tests.{eq-eqb, ne-eqb, eqb-true, not-false}
 use Rattle.laws.proofs.Tests.{or-false}
-use Rattle.settings.specs.Settings.{labelRefused, traceRefused}
-use Rattle.refusals.specs.Refusals.{Fault, due, numberOf, says, answerOf}
+use Rattle.settings.specs.Faults.{settingsFaults}
+use Rattle.settings.specs.declared.Settings.{Settings}
+use Rattle.settings.proofs.Refuses.{settings-numbered}
+use Rattle.refusals.specs.Refusals.{Fault, given, due, numberOf, says, answerOf}
 use Rattle.refusals.specs.declared.Refusal.{Refusal}
 use Rattle.refusals.specs.declared.Refusal.the-variants as wrong
+use Rattle.refusals.specs.declared.Answer.{Answer}
 use Rattle.refusals.specs.declared.Answer.the-variants.{Done, Refused}
-use Rattle.refusals.proofs.Wrong.{due-none, due-false, none-wrong, Numbered, numbered-row, numbered-last}
+use Rattle.refusals.proofs.Wrong.{due-none, due-false, none-wrong, Numbered, numbered-row, numbered-both, numbered-last}
+use Rattle.refusals.proofs.Joined.{joined-refused, joined-done, joined-none}
 use Rattle.shape.specs.Shape.{unitLength, heldCount}
 use Rattle.shape.specs.declared.Shape.{Shape}
 use Rattle.pointer.specs.Machine as pointer
 use Rattle.pointer.proofs.Ranges.{offset-low}
 use Rattle.monitor.specs.Monitoring as monitor
-use Rattle.sink.specs.Sink.{heldIn, sinkOutOfRange, sinkFaults, Fed}
+use Rattle.sink.specs.Sink.{heldIn, sinkOutOfRange, sinkFaults}
+use Rattle.sink.specs.Inner.{Fed}
 use Rattle.sink.specs.declared.State.{State}
 
 -- ---- ranges
@@ -67,52 +72,57 @@ module _ (s : Shape) (state : State) (a : Bool) (a-is : a ≡ pointer.pointerInR
 
 -- ---- the answer, by the tests that led to it
 
-module _ (s : Shape) (state : State) (label : ℕ) (trace : List ℕ) (unit held done : ℕ) where
+module _ (s : Shape) (state : State) (e : Settings) (unit held done : ℕ) where
   abbrev faults : List (Fault Refusal)
-  faults = sinkFaults s state label trace unit held done
+  faults = sinkFaults s state e unit held done
+
+  -- what is asked after the settings
+  abbrev lengths : List (Fault Refusal)
+  lengths = given 1 wrong.Unit (not (eqb unit (unitLength s))) ++ given 3 wrong.Container (not (eqb held (s .size)) || not (eqb done (s .size)))
 
   module _ (o : Bool) (is-o : o ≡ sinkOutOfRange s state) where
     pub wrong-state : o ≡ true → Refused wrong.State ≡ answerOf faults
     unfolding sinkFaults due answerOf
     wrong-state h = rw (← is-o, h) refl
 
-    module _ (o-no : o ≡ false) (l : Bool) (is-l : l ≡ labelRefused label) where
-      pub wrong-label : l ≡ true → Refused wrong.Label ≡ answerOf faults
-      unfolding sinkFaults due answerOf
-      wrong-label h = rw (← is-o, o-no, ← is-l, h) refl
+    module _ (o-no : o ≡ false) where
+      settings-next : answerOf faults ≡ answerOf (settingsFaults e ++ lengths)
+      unfolding sinkFaults due
+      settings-next = rw (← is-o, o-no) refl
 
-      module _ (l-no : l ≡ false) (t : Bool) (is-t : t ≡ traceRefused trace) where
-        pub wrong-trace : t ≡ true → Refused wrong.Trace ≡ answerOf faults
-        unfolding sinkFaults due answerOf
-        wrong-trace h = rw (← is-o, o-no, ← is-l, l-no, ← is-t, h) refl
+      module _ (r : Answer) (is-r : r ≡ answerOf (settingsFaults e)) where
+        pub wrong-settings : (x : Refusal) → r ≡ Refused x → Refused x ≡ answerOf faults
+        wrong-settings x h = sym (settings-next ∙ joined-refused (settingsFaults e) lengths x (sym is-r ∙ h))
 
-        module _ (t-no : t ≡ false) where
+        module _ (r-no : r ≡ Done) where
+          lengths-next : answerOf faults ≡ answerOf lengths
+          lengths-next = settings-next ∙ joined-done (settingsFaults e) lengths (sym is-r ∙ r-no)
+
           pub wrong-unit : (unit ≡ unitLength s → ⊥) → Refused wrong.Unit ≡ answerOf faults
-          unfolding sinkFaults due answerOf
-          wrong-unit h = rw (← is-o, o-no, ← is-l, l-no, ← is-t, t-no, ne-eqb unit (unitLength s) h) refl
+          unfolding due answerOf
+          wrong-unit h = sym (lengths-next ∙ rw (ne-eqb unit (unitLength s) h) refl)
 
           module _ (full : unit ≡ unitLength s) where
             pub wrong-buffer : (not (eqb held (s .size)) || not (eqb done (s .size))) ≡ true → Refused wrong.Container ≡ answerOf faults
-            unfolding sinkFaults due answerOf
-            wrong-buffer h = rw (← is-o, o-no, ← is-l, l-no, ← is-t, t-no, eq-eqb unit (unitLength s) full, h) refl
+            unfolding due answerOf
+            wrong-buffer h = sym (lengths-next ∙ rw (eq-eqb unit (unitLength s) full, h) refl)
 
             pub nothing-wrong : (not (eqb held (s .size)) || not (eqb done (s .size))) ≡ false → Done ≡ answerOf faults
-            unfolding sinkFaults due answerOf
-            nothing-wrong h = rw (← is-o, o-no, ← is-l, l-no, ← is-t, t-no, eq-eqb unit (unitLength s) full, h) refl
+            unfolding due answerOf
+            nothing-wrong h = sym (lengths-next ∙ rw (eq-eqb unit (unitLength s) full, h) refl)
 
   -- each row has its case's number
   pub numbered : Numbered says faults
   unfolding sinkFaults says numberOf
-  numbered = search (numbered-row, numbered-last)
+  numbered = search (numbered-row, numbered-both, numbered-last, settings-numbered)
 
   -- a call that is done had nothing wrong with it
   pub fed : answerOf faults ≡ Done → Fed s state unit held done
   unfolding sinkFaults
   fed d =
       let p1 = due-none (sinkOutOfRange s state) _ _ (none-wrong faults d) in
-      let p2 = due-none (labelRefused label) _ _ (p1 .1) in
-      let p3 = due-none (traceRefused trace) _ _ (p2 .1) in
-      let p4 = due-none (not (eqb unit (unitLength s))) _ _ (p3 .1) in
+      let p2 = joined-none (settingsFaults e) lengths (p1 .1) in
+      let p4 = due-none (not (eqb unit (unitLength s))) _ _ (p2 .1) in
       let p5 = or-false (not (eqb held (s .size))) (not (eqb done (s .size))) (due-false (not (eqb held (s .size)) || not (eqb done (s .size))) _ (p4 .1)) in
       record {
         fine = p1 .0;

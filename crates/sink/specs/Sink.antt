@@ -8,7 +8,7 @@ use mathlib.Core.List.{List, [], _∷_, _++_}
 use lib.Dec.{eqb}
 use lib.ListN.{length, getD}
 use Rattle.word.specs.Word.{wordOf}
-use Rattle.settings.specs.Settings.{labelRefused, traceRefused}
+use Rattle.settings.specs.Faults.{settingsFaults}
 use Rattle.refusals.specs.Refusals.{Fault, answerSays, given, saidBy, outcome}
 use Rattle.refusals.specs.declared.Refusal.{Refusal}
 use Rattle.refusals.specs.declared.Refusal.the-variants as wrong
@@ -19,14 +19,12 @@ use Rattle.pointer.specs.Machine as pointer
 use Rattle.pointer.specs.declared.Pointer.{Pointer}
 use Rattle.pointer.specs.declared.AfterWord.{AfterWord}
 use Rattle.monitor.specs.Monitoring as monitor
-use Rattle.monitor.specs.declared.Expected.{Expected}
+use Rattle.settings.specs.declared.Settings.{Settings}
 use Rattle.receiving.specs.Receiving.{UnitOutcome, receivedNormal, silence}
 use Rattle.receiving.specs.declared.AfterUnit.{AfterUnit}
-use Rattle.unit_end.specs.Report.{defectsOf, ssfOf, actionsOf, causesOf, settledOf, totalOf}
-use Rattle.unit_end.specs.declared.Flags.{Flags}
-use Rattle.unit_end.specs.declared.Defects.{Defects}
-use Rattle.unit_end.specs.declared.Actions.{Actions}
-use Rattle.unit_end.specs.declared.Causes.{Causes}
+use Rattle.unit_end.specs.Terms.{termination}
+use Rattle.unit_end.specs.Actions.{defectsOf, ssfOf, actionsOf, causesOf, noDefects, noActions, noCauses}
+use Rattle.unit_end.specs.Settled.{settledOf, totalOf}
 use Rattle.sink.specs.declared.State.{State}
 use Rattle.sink.specs.declared.Received.{Received}
 
@@ -47,14 +45,13 @@ sinkOutOfRange s state =
     || not (monitor.monitorInRange (state .monitor))
     || not (eqb (state .held) (heldIn s (state .pointer)))
 
--- what is refused: "Sink: 8, 4, 5, 1, 3". Of unit, held and done the lengths count.
-unfoldable pub sinkFaults : Shape → State → ℕ → List ℕ → ℕ → ℕ → ℕ → List (Fault Refusal)
-sinkFaults s state label trace unit held done =
+-- what is refused: "Sink: 8, 4, 5, 1, 3", 4 and 5 of the settings. Of unit, held and done the lengths count.
+unfoldable pub sinkFaults : Shape → State → Settings → ℕ → ℕ → ℕ → List (Fault Refusal)
+sinkFaults s state e unit held done =
     given 8 wrong.State (sinkOutOfRange s state)
-    ++ (given 4 wrong.Label (labelRefused label)
-    ++ (given 5 wrong.Trace (traceRefused trace)
+    ++ (settingsFaults e
     ++ (given 1 wrong.Unit (not (eqb unit (unitLength s)))
-    ++ given 3 wrong.Container (not (eqb held (s .size)) || not (eqb done (s .size))))))
+    ++ given 3 wrong.Container (not (eqb held (s .size)) || not (eqb done (s .size)))))
 
 -- ---- one unit
 
@@ -67,15 +64,15 @@ unfoldable pub pointed : Shape → Pointer → List ℕ → AfterWord
 pointed s p unit = pointer.pointerStep p (s .top) (wordIn s unit)
 
 -- what it leaves, a being the pointer after it: "A unit that ends in alarm or lost has SSF and hands back nothing", and writes nothing
-unfoldable pub unitOutcome : Shape → State → AfterWord → Expected → List ℕ → List ℕ → List ℕ → UnitOutcome
+unfoldable pub unitOutcome : Shape → State → AfterWord → Settings → List ℕ → List ℕ → List ℕ → UnitOutcome
 unitOutcome s state a e unit held done =
     cond (pointer.isNormal (a .pointer .state))
     (receivedNormal s (a .taken) (pointer.offsetOf (a .pointer .state)) (state .held) (state .monitor) e unit held done)
     (record { after = silence; held = held; done = done })
 
 -- "Actions and causes are taken at the unit's end", and so are settled and the total
-unfoldable pub told : Pointer → ℕ → AfterUnit → Expected → Flags → Received
-told p total u e flags =
+unfoldable pub told : Pointer → ℕ → AfterUnit → Settings → Received
+told p total u e =
     let alarm = pointer.isAlarm (p .state) in
     let lost = pointer.isLost (p .state) in
     let defects = defectsOf (u .monitor) in
@@ -84,9 +81,9 @@ told p total u e flags =
       answer = Done;
       state = record { pointer = p; held = u .held; monitor = u .monitor; total = totalOf total settled };
       ended = u .ended;
-      actions = actionsOf (ssfOf alarm lost) defects;
+      actions = actionsOf termination (ssfOf alarm lost) defects;
       defects = defects;
-      causes = causesOf alarm lost defects flags;
+      causes = causesOf termination alarm lost defects (e .flags);
       settled = settled;
     }
 
@@ -97,15 +94,6 @@ pub record ReceivedOutcome : Type 0 where
   pub received : Received
   pub held : List ℕ
   pub done : List ℕ
-
-abbrev pub noActions : Actions
-noActions = record { ssf = false; tsf = false; ais = false; rdi = false }
-
-abbrev pub noDefects : Defects
-noDefects = record { uneq = false; tim = false; plm = false; rdi = false }
-
-abbrev pub noCauses : Causes
-noCauses = record { ais = false; lop = false; ssf = false; uneq = false; tim = false; rdi = false; plm = false }
 
 -- "A refusal returns its number and the old state": it is no unit, and nothing is told of one
 unfoldable pub refusing : State → Refusal → Received
@@ -121,38 +109,20 @@ refusing state x =
     }
 
 -- THE SINK. "Nothing lent is written" where it refuses.
-unfoldable pub sink : Shape → State → Expected → Flags → List ℕ → List ℕ → List ℕ → ReceivedOutcome
-sink s state e flags unit held done =
+unfoldable pub sink : Shape → State → Settings → List ℕ → List ℕ → List ℕ → ReceivedOutcome
+sink s state e unit held done =
     let a = pointed s (state .pointer) unit in
     let l = unitOutcome s state a e unit held done in
-    outcome (sinkFaults s state (e .label) (e .trace) (length unit) (length held) (length done))
-    (record { received = told (a .pointer) (state .total) (l .after) e flags; held = l .held; done = l .done })
+    outcome (sinkFaults s state e (length unit) (length held) (length done))
+    (record { received = told (a .pointer) (state .total) (l .after) e; held = l .held; done = l .done })
     (λ x. record { received = refusing state x; held = held; done = done })
 
 -- what is answered is the call's, and held and done are left so
-abbrev pub ReceivesAs : Shape → State → Expected → Flags → List ℕ → List ℕ → List ℕ → Received → List ℕ → List ℕ → Type 0
-ReceivesAs s state e flags unit held done r held′ done′ =
-    _≡_ {A = ReceivedOutcome} (record { received = r; held = held′; done = done′ }) (sink s state e flags unit held done)
+abbrev pub ReceivesAs : Shape → State → Settings → List ℕ → List ℕ → List ℕ → Received → List ℕ → List ℕ → Type 0
+ReceivesAs s state e unit held done r held′ done′ =
+    _≡_ {A = ReceivedOutcome} (record { received = r; held = held′; done = done′ }) (sink s state e unit held done)
 
 -- the promise: the answer says the table's number, 0 where nothing is wrong; and all that is answered, with held and done as they were and as they are left
-pub record Receives (s : Shape) (state : State) (e : Expected) (flags : Flags) (unit held done : List ℕ) (r : Received) (held′ done′ : List ℕ) : Type 0 where
-  pub number-is : answerSays (r .answer) ≡ saidBy (0 ∷ []) (sinkFaults s state (e .label) (e .trace) (length unit) (length held) (length done))
-  pub outcome-is : ReceivesAs s state e flags unit held done r held′ done′
-
--- ---- what the parts of a call are given
-
--- a call that nothing is wrong with, by its lengths
-pub record Fed (s : Shape) (state : State) (unit held done : ℕ) : Type 0 where
-  pub fine : sinkOutOfRange s state ≡ false
-  pub unit-is : unit ≡ unitLength s
-  pub held-is : held ≡ s .size
-  pub done-is : done ≡ s .size
-
--- one whose word was read
-pub record Pointed (s : Shape) (state : State) (a : AfterWord) (unit held done : List ℕ) : Type 0 where
-  pub fit : Fit s
-  pub fed : Fed s state (length unit) (length held) (length done)
-  pub after-is : a ≡ pointed s (state .pointer) unit
-
-abbrev pub UnitOutcomeIs : Shape → State → AfterWord → Expected → List ℕ → List ℕ → List ℕ → AfterUnit → List ℕ → List ℕ → Type 0
-UnitOutcomeIs s state a e unit held done r held′ done′ = _≡_ {A = UnitOutcome} (record { after = r; held = held′; done = done′ }) (unitOutcome s state a e unit held done)
+pub record Receives (s : Shape) (state : State) (e : Settings) (unit held done : List ℕ) (r : Received) (held′ done′ : List ℕ) : Type 0 where
+  pub number-is : answerSays (r .answer) ≡ saidBy (0 ∷ []) (sinkFaults s state e (length unit) (length held) (length done))
+  pub outcome-is : ReceivesAs s state e unit held done r held′ done′

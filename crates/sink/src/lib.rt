@@ -5,8 +5,8 @@ ghost use Prim.Native.Nat.{_<_};
 ghost use lib.ListN.{length};
 ghost use Rattle.shape.specs.Shape.{au4, Fit};
 ghost use Rattle.refusals.specs.Refusals.{answerOf};
-ghost use Rattle.sink.specs.Sink.{freshSink, sinkOutOfRange, sinkFaults, pointed, Pointed, UnitOutcomeIs, told, refusing, ReceivesAs, Receives};
-use monitor::Expected;
+ghost use Rattle.sink.specs.Sink.{freshSink, sinkOutOfRange, sinkFaults, pointed, told, refusing, ReceivesAs, Receives};
+ghost use Rattle.sink.specs.Inner.{Pointed, UnitOutcomeIs};
 use monitor::Monitor;
 use pointer::AfterWord;
 use pointer::Pointer;
@@ -14,11 +14,11 @@ use receiving::AfterUnit;
 use receiving::Ended;
 use refusals::Answer;
 use refusals::Refusal;
+use settings::Settings;
 use shape::Shape;
 use unit_end::Actions;
 use unit_end::Causes;
 use unit_end::Defects;
-use unit_end::Flags;
 
 // A sink between two units: the pointer, how many bytes are held, what is watched of containers, and the units that ended unsettled since the fresh state.
 pub struct State {
@@ -70,19 +70,18 @@ fn out_of_range(shape: Shape, s: State) -> bool
 }
 
 // The answer to a call, by its state and settings, and the lengths of what it is lent.
-fn answer(shape: Shape, s: State, e: Expected, unit: usize, held: usize, done: usize) -> Answer
+fn answer(shape: Shape, s: State, e: Settings, unit: usize, held: usize, done: usize) -> Answer
     requires { ⌜ Fit shape ⌝ }
-    ensures { λ r. ⌜ r ≡ answerOf (sinkFaults shape s (e .label) (e .trace) unit held done) ⌝ }
+    ensures { λ r. ⌜ r ≡ answerOf (sinkFaults shape s e unit held done) ⌝ }
 {
-    let characters = e.trace;
     if out_of_range(shape, s) {
         return Answer::Refused(Refusal::State);
     }
-    if settings::label_refused(e.label) {
-        return Answer::Refused(Refusal::Label);
-    }
-    if settings::trace_refused(&characters) {
-        return Answer::Refused(Refusal::Trace);
+    match settings::answer(e) {
+        Answer::Refused(x) => {
+            return Answer::Refused(x);
+        }
+        Answer::Done => {}
     }
     if unit != 3 * shape.step + shape.size {
         return Answer::Refused(Refusal::Unit);
@@ -108,7 +107,7 @@ fn take_unit(
     shape: Shape,
     s: State,
     a: AfterWord,
-    e: Expected,
+    e: Settings,
     unit: &[u8],
     held: &mut [u8],
     done: &mut [u8],
@@ -137,10 +136,11 @@ fn take_unit(
 }
 
 // What is told of the unit at its end.
-fn tell(p: Pointer, total: u16, u: AfterUnit, e: Expected, flags: Flags) -> Received
-    ensures { λ r. ⌜ r ≡ told p total u e flags ⌝ }
+fn tell(p: Pointer, total: u16, u: AfterUnit, e: Settings) -> Received
+    ensures { λ r. ⌜ r ≡ told p total u e ⌝ }
 {
     let state = p.state;
+    let flags = e.flags;
     let normal = pointer::normal(state);
     let alarm = pointer::alarm(state);
     let m = u.monitor;
@@ -164,37 +164,21 @@ fn tell(p: Pointer, total: u16, u: AfterUnit, e: Expected, flags: Flags) -> Rece
     }
 }
 
-// Nothing is told of a unit.
+// Nothing is told of a unit: what is told where none was, of a monitor that has seen nothing.
 fn refuse(s: State, x: Refusal) -> Received
     ensures { λ r. ⌜ r ≡ refusing s x ⌝ }
 {
     let none = receiving::silent();
     let ended = none.ended;
+    let m = none.monitor;
+    let defects = unit_end::defects_of(m);
     Received {
         answer: Answer::Refused(x),
         state: s,
         ended,
-        actions: Actions {
-            ssf: false,
-            tsf: false,
-            ais: false,
-            rdi: false,
-        },
-        defects: Defects {
-            uneq: false,
-            tim: false,
-            plm: false,
-            rdi: false,
-        },
-        causes: Causes {
-            ais: false,
-            lop: false,
-            ssf: false,
-            uneq: false,
-            tim: false,
-            rdi: false,
-            plm: false,
-        },
+        actions: unit_end::actions_of(false, defects),
+        defects,
+        causes: unit_end::causes_of(false, false, defects, settings::flags_of(0)),
         settled: false,
     }
 }
@@ -203,14 +187,13 @@ fn refuse(s: State, x: Refusal) -> Received
 fn feed(
     shape: Shape,
     s: State,
-    e: Expected,
-    flags: Flags,
+    e: Settings,
     unit: &[u8],
     held: &mut [u8],
     done: &mut [u8],
 ) -> Received
     requires { ⌜ Fit shape ⌝ }
-    ensures { λ r. ⌜ ReceivesAs shape s e flags (now (unit .entry)) (now (held .entry)) (now (done .entry)) r (now (held .exit)) (now (done .exit)) ⌝ }
+    ensures { λ r. ⌜ ReceivesAs shape s e (now (unit .entry)) (now (held .entry)) (now (done .entry)) r (now (held .exit)) (now (done .exit)) ⌝ }
 {
     match answer(shape, s, e, unit.len(), held.len(), done.len()) {
         Answer::Refused(x) => {
@@ -222,22 +205,12 @@ fn feed(
     let a = point(shape, before, unit);
     let u = take_unit(shape, s, a, e, unit, held, done);
     let after = a.pointer;
-    tell(after, s.total, u, e, flags)
+    tell(after, s.total, u, e)
 }
 
 // The next unit of an AU-4. Refuses 8, 4, 5, 1, 3.
-pub fn sink(
-    s: State,
-    label: u8,
-    characters: &[u8; 15],
-    flags: Flags,
-    unit: &[u8],
-    held: &mut [u8],
-    done: &mut [u8],
-) -> Received
-    ensures { λ r. ⌜ Receives au4 s (record { label = label; trace = now (characters .entry) }) flags (now (unit .entry)) (now (held .entry)) (now (done .entry)) r (now (held .exit)) (now (done .exit)) ⌝ }
+pub fn sink(s: State, e: Settings, unit: &[u8], held: &mut [u8], done: &mut [u8]) -> Received
+    ensures { λ r. ⌜ Receives au4 s e (now (unit .entry)) (now (held .entry)) (now (done .entry)) r (now (held .exit)) (now (done .exit)) ⌝ }
 {
-    let trace = *characters;
-    let e = Expected { label, trace };
-    feed(shape::au4_shape(), s, e, flags, unit, held, done)
+    feed(shape::au4_shape(), s, e, unit, held, done)
 }

@@ -27,7 +27,7 @@ state-related Alarm m h = rw (h refl) (cleared-related true false 48 refl)
 state-related Lost m h = rw (h refl) (cleared-related false true 48 refl)
 
 silent : (s : Shape) (state : State) (a : AfterWord) (c : SinkCall) → isNormal (a .pointer .state) ≡ false
-    → unitOutcome s state a (c .expected) (c .unit) (c .held) (c .done) .after .monitor ≡ blankOf 48
+    → unitOutcome s state a (c .settings) (c .unit) (c .held) (c .done) .after .monitor ≡ blankOf 48
 unfolding unitOutcome silence
 silent s state a c h = rw h refl
 
@@ -47,7 +47,7 @@ pub only-pairs : (s : Shape) (state : State) (c : SinkCall) (a b : Cause)
 unfolding sink told refusing
 only-pairs s state c a b =
     let after = pointed s (state .pointer) (c .unit) in
-    let left = unitOutcome s state after (c .expected) (c .unit) (c .held) (c .done) .after in
+    let left = unitOutcome s state after (c .settings) (c .unit) (c .held) (c .done) .after in
     let x = after .pointer .state in
     outcome-by (λ (o : ReceivedOutcome). stands (o .received .causes) a ≡ true → stands (o .received .causes) b ≡ true → among b (a ∷ partners a) ≡ true) (faults s state c)
     (together (isAlarm x) (isLost x) (defectsOf (left .monitor)) (c .flags) (state-related x (left .monitor) (silent s state after c)) a b)

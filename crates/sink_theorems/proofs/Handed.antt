@@ -49,14 +49,14 @@ module _ (s : Shape) (f : Fit s) (state : State) (c : SinkCall) (d : sinkCalled 
   a = pointed s (state .pointer) (c .unit)
 
   pub is-fed : Fed s state (length (c .unit)) (length (c .held)) (length (c .done))
-  is-fed = fed s state (c .expected .label) (c .expected .trace) (length (c .unit)) (length (c .held)) (length (c .done)) (sym (answer-is s state c) ∙ d)
+  is-fed = fed s state (c .settings .label) (c .settings .trace) (length (c .unit)) (length (c .held)) (length (c .done)) (sym (answer-is s state c) ∙ d)
 
   -- what it leaves
   pub called-is : sinkCalled s state c ≡
       record {
-        received = told (a .pointer) (state .total) (unitOutcome s state a (c .expected) (c .unit) (c .held) (c .done) .after) (c .expected) (c .flags);
-        held = unitOutcome s state a (c .expected) (c .unit) (c .held) (c .done) .held;
-        done = unitOutcome s state a (c .expected) (c .unit) (c .held) (c .done) .done;
+        received = told (a .pointer) (state .total) (unitOutcome s state a (c .settings) (c .unit) (c .held) (c .done) .after) (c .settings);
+        held = unitOutcome s state a (c .settings) (c .unit) (c .held) (c .done) .held;
+        done = unitOutcome s state a (c .settings) (c .unit) (c .held) (c .done) .done;
       }
   unfolding sink
   called-is = outcome-done (faults s state c) _ _ (sym (answer-is s state c) ∙ d)

@@ -22,8 +22,8 @@ use Rattle.pointer.specs.declared.Pointer.{Pointer}
 use Rattle.cut.specs.Cut.{nextOf, insideOf, beginOf, cutOf, completedOf, insidePart, doneOf, heldOf}
 use Rattle.cut.specs.declared.Cut.{Cut}
 use Rattle.monitor.specs.declared.Monitor.{Monitor}
-use Rattle.monitor.specs.declared.Expected.{Expected}
-use Rattle.unit_end.specs.declared.Flags.{Flags}
+use Rattle.settings.specs.declared.Settings.{Settings}
+use Rattle.settings.specs.declared.Flags.{Flags}
 use Rattle.view.specs.View.{partOf, inOrder}
 use Rattle.receiving.specs.Receiving.{UnitOutcome, fromIn, beginIn, endedIn, bothSeen, receivedNormal, silence}
 use Rattle.sink.specs.Sink.{ReceivedOutcome, pointed, sinkFaults, unitOutcome, told, refusing, sink}
@@ -82,7 +82,7 @@ module _ (s : Shape) (kept from : ℕ) (unit unit′ held done : List ℕ) (e : 
 
 -- ---- one unit
 
-received-same : (s : Shape) (t : Taken) (offset count : ℕ) (m : Monitor) (e : Expected) (unit unit′ held done : List ℕ)
+received-same : (s : Shape) (t : Taken) (offset count : ℕ) (m : Monitor) (e : Settings) (unit unit′ held done : List ℕ)
     → drop (beginIn s t offset count .from) unit ≡ drop (beginIn s t offset count .from) unit′
     → receivedNormal s t offset count m e unit held done ≡ receivedNormal s t offset count m e unit′ held done
 unfolding receivedNormal
@@ -108,10 +108,10 @@ begins s state unit =
     beginIn s (a .taken) (offsetOf (a .pointer .state)) (state .held) .from
 
 -- a container inside the unit lies in the run
-inside-later : (s : Shape) (state : State) (e : Expected) (flags : Flags) (unit held done : List ℕ) → sink s state e flags unit held done .received .ended .inside ≡ true
-    → begins s state unit ≤ sink s state e flags unit held done .received .ended .place
+inside-later : (s : Shape) (state : State) (e : Settings) (unit held done : List ℕ) → sink s state e unit held done .received .ended .inside ≡ true
+    → begins s state unit ≤ sink s state e unit held done .received .ended .place
 unfolding sink unitOutcome told refusing silence receivedNormal bothSeen endedIn cutOf
-inside-later s state e flags unit held done =
+inside-later s state e unit held done =
     let a = pointed s (state .pointer) unit in
     let b = beginIn s (a .taken) (offsetOf (a .pointer .state)) (state .held) in
     outcome-by (λ (o : ReceivedOutcome). o .received .ended .inside ≡ true → b .from ≤ o .received .ended .place)
@@ -128,9 +128,9 @@ unfolding partOf
 part-same unit unit′ from place size l e true h = rw (l, drop-later from place unit unit′ (h refl) e) refl
 part-same unit unit′ from place size l e false h = refl
 
-module _ (s : Shape) (state : State) (e : Expected) (flags : Flags) (unit unit′ held done : List ℕ) where
+module _ (s : Shape) (state : State) (e : Settings) (unit unit′ held done : List ℕ) where
   -- THE SINK IGNORES ALL ELSE: units with one H1 and H2, and the same bytes from the run's begin on, have one outcome
-  pub ignored : Alike s (begins s state unit) unit unit′ → sink s state e flags unit held done ≡ sink s state e flags unit′ held done
+  pub ignored : Alike s (begins s state unit) unit unit′ → sink s state e unit held done ≡ sink s state e unit′ held done
   unfolding sink unitOutcome
   ignored l =
       let a = pointed s (state .pointer) unit in
@@ -139,14 +139,14 @@ module _ (s : Shape) (state : State) (e : Expected) (flags : Flags) (unit unit�
 
   -- the call with a unit u
   abbrev pub call : List ℕ → SinkCall
-  call u = record { expected = e; flags = flags; unit = u; held = held; done = done }
+  call u = record { settings = e; unit = u; held = held; done = done }
 
   -- and the same containers are handed back, that inside the unit among them
   pub handed-ignored : Alike s (begins s state unit) unit unit′ → handed s (call unit) (sinkCalled s state (call unit)) ≡ handed s (call unit′) (sinkCalled s state (call unit′))
   unfolding handed inOrder
   handed-ignored l =
-      let r = sink s state e flags unit held done .received .ended in
-      rw (part-same unit unit′ (begins s state unit) (r .place) (s .size) (l .long) (l .run) (r .inside) (inside-later s state e flags unit held done), ignored l) refl
+      let r = sink s state e unit held done .received .ended in
+      rw (part-same unit unit′ (begins s state unit) (r .place) (s .size) (l .long) (l .run) (r .inside) (inside-later s state e unit held done), ignored l) refl
 
 -- ---- in 01's words
 
@@ -172,30 +172,30 @@ run-h3 step adjusts.Decrement h = absurd (h refl)
 abbrev pub made : Shape → State → List ℕ → Adjustment
 made s state unit = adjustmentOf (pointed s (state .pointer) unit .taken)
 
-module _ (s : Shape) (state : State) (e : Expected) (flags : Flags) (unit unit′ held done : List ℕ) where
-  from-run : (n : ℕ) → n ≤ runFrom (s .step) (made s state unit) → Alike s n unit unit′ → sink s state e flags unit held done ≡ sink s state e flags unit′ held done
+module _ (s : Shape) (state : State) (e : Settings) (unit unit′ held done : List ℕ) where
+  from-run : (n : ℕ) → n ≤ runFrom (s .step) (made s state unit) → Alike s n unit unit′ → sink s state e unit held done ≡ sink s state e unit′ held done
   unfolding beginIn
   from-run n h l =
       let a = pointed s (state .pointer) unit in
       let q = begins-run s (a .taken) (offsetOf (a .pointer .state)) in
-      ignored s state e flags unit unit′ held done (alike-later s n (begins s state unit) unit unit′ (omega (arith, h, q)) l)
+      ignored s state e unit unit′ held done (alike-later s n (begins s state unit) unit unit′ (omega (arith, h, q)) l)
 
   -- "Y = 9B and 1* = FF": in every unit
-  pub fill-ignored : Alike s (2 * s .step) unit unit′ → sink s state e flags unit held done ≡ sink s state e flags unit′ held done
+  pub fill-ignored : Alike s (2 * s .step) unit unit′ → sink s state e unit held done ≡ sink s state e unit′ held done
   fill-ignored = from-run (2 * s .step) (run-begins (s .step) (made s state unit) .behind)
 
   -- "00 in unused H3": in a unit that is no decrement
-  pub h3-ignored : (made s state unit ≡ adjusts.Decrement → ⊥) → Alike s (3 * s .step) unit unit′ → sink s state e flags unit held done ≡ sink s state e flags unit′ held done
+  pub h3-ignored : (made s state unit ≡ adjusts.Decrement → ⊥) → Alike s (3 * s .step) unit unit′ → sink s state e unit held done ≡ sink s state e unit′ held done
   h3-ignored h = from-run (3 * s .step) (run-h3 (s .step) (made s state unit) h)
 
   -- "or skipped places": in an increment unit
-  pub skipped-ignored : made s state unit ≡ adjusts.Increment → Alike s (4 * s .step) unit unit′ → sink s state e flags unit held done ≡ sink s state e flags unit′ held done
+  pub skipped-ignored : made s state unit ≡ adjusts.Increment → Alike s (4 * s .step) unit unit′ → sink s state e unit held done ≡ sink s state e unit′ held done
   unfolding runFrom
   skipped-ignored h = from-run (4 * s .step) (rw h (omega arith))
 
 -- AU-4, byte by byte: whatever stands for Y, Y, 1*, 1*
-pub au4-fill : (state : State) (e : Expected) (flags : Flags) (h1 y1 y2 h2 f1 f2 y1′ y2′ f1′ f2′ : ℕ) (rest held done : List ℕ)
-    → sink au4 state e flags (h1 ∷ y1 ∷ y2 ∷ h2 ∷ f1 ∷ f2 ∷ rest) held done ≡ sink au4 state e flags (h1 ∷ y1′ ∷ y2′ ∷ h2 ∷ f1′ ∷ f2′ ∷ rest) held done
-au4-fill state e flags h1 y1 y2 h2 f1 f2 y1′ y2′ f1′ f2′ rest held done =
-    fill-ignored au4 state e flags (h1 ∷ y1 ∷ y2 ∷ h2 ∷ f1 ∷ f2 ∷ rest) (h1 ∷ y1′ ∷ y2′ ∷ h2 ∷ f1′ ∷ f2′ ∷ rest) held done
+pub au4-fill : (state : State) (e : Settings) (h1 y1 y2 h2 f1 f2 y1′ y2′ f1′ f2′ : ℕ) (rest held done : List ℕ)
+    → sink au4 state e (h1 ∷ y1 ∷ y2 ∷ h2 ∷ f1 ∷ f2 ∷ rest) held done ≡ sink au4 state e (h1 ∷ y1′ ∷ y2′ ∷ h2 ∷ f1′ ∷ f2′ ∷ rest) held done
+au4-fill state e h1 y1 y2 h2 f1 f2 y1′ y2′ f1′ f2′ rest held done =
+    fill-ignored au4 state e (h1 ∷ y1 ∷ y2 ∷ h2 ∷ f1 ∷ f2 ∷ rest) (h1 ∷ y1′ ∷ y2′ ∷ h2 ∷ f1′ ∷ f2′ ∷ rest) held done
     (record { long = refl; h1 = refl; h2 = refl; run = refl })

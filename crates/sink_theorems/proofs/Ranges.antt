@@ -24,10 +24,10 @@ use Rattle.cut.proofs.Count.{rest-goes, rest-restarts}
 use Rattle.monitor.specs.Seeing.{seenIn}
 use Rattle.monitor.specs.Monitoring as monitor
 use Rattle.monitor.specs.declared.Monitor.{Monitor}
-use Rattle.monitor.specs.declared.Expected.{Expected}
+use Rattle.settings.specs.declared.Settings.{Settings}
 use Rattle.monitor.proofs.Ranges.{step-range, blank-range}
 use Rattle.receiving.specs.Receiving.{UnitOutcome, forgot, fromIn, beginIn, cutIn, watched, bothSeen, receivedNormal, silence}
-use Rattle.unit_end.specs.declared.Flags.{Flags}
+use Rattle.settings.specs.declared.Flags.{Flags}
 use Rattle.sink.specs.Sink.{freshSink, ReceivedOutcome, heldIn, sinkOutOfRange, sinkFaults, pointed, unitOutcome, told, refusing, sink}
 use Rattle.sink.specs.declared.State.{State}
 use Rattle.sink.proofs.Refuses.{Ranged, ranged, in-range}
@@ -44,12 +44,12 @@ forgot-range t m h = go (restarts t)
     go true = h
     go false = h
 
-watched-range : (b : Bool) (columns : ℕ) (container : List ℕ) (e : Expected) (m : Monitor) → monitor.monitorInRange m ≡ true → monitor.monitorInRange (watched b columns container e m .monitor) ≡ true
+watched-range : (b : Bool) (columns : ℕ) (container : List ℕ) (e : Settings) (m : Monitor) → monitor.monitorInRange m ≡ true → monitor.monitorInRange (watched b columns container e m .monitor) ≡ true
 unfolding watched monitor.seenOf
 watched-range true columns container e m h = step-range m (seenIn columns container) e h
 watched-range false columns container e m h = h
 
-both-range : (s : Shape) (c : Cut) (completed inside : List ℕ) (m : Monitor) (e : Expected) → monitor.monitorInRange m ≡ true → monitor.monitorInRange (bothSeen s c completed inside m e .monitor) ≡ true
+both-range : (s : Shape) (c : Cut) (completed inside : List ℕ) (m : Monitor) (e : Settings) → monitor.monitorInRange m ≡ true → monitor.monitorInRange (bothSeen s c completed inside m e .monitor) ≡ true
 unfolding bothSeen
 both-range s c completed inside m e h =
     watched-range (c .inside) (s .columns) inside e (watched (c .ends) (s .columns) completed e m .monitor) (watched-range (c .ends) (s .columns) completed e m h)
@@ -85,14 +85,14 @@ module _ (s : Shape) (f : Fit s) (state : State) (r : Ranged s state) (unit : Li
       (rest-goes s (adjustmentOf (a .taken)) (pointer.offsetOf (state .pointer .state)) f (offset-low (s .top) (state .pointer) (r .pointer-in)))
 
   -- what a unit leaves is in range
-  leaving-monitor : (e : Expected) (held done : List ℕ) → monitor.monitorInRange (unitOutcome s state a e unit held done .after .monitor) ≡ true
+  leaving-monitor : (e : Settings) (held done : List ℕ) → monitor.monitorInRange (unitOutcome s state a e unit held done .after .monitor) ≡ true
   unfolding unitOutcome receivedNormal silence
   leaving-monitor e held done =
       by-test (λ (l : UnitOutcome). monitor.monitorInRange (l .after .monitor) ≡ true) (pointer.isNormal (a .pointer .state))
       (λ _. both-range s (cutIn s (a .taken) (pointer.offsetOf (a .pointer .state)) (state .held)) _ _ (forgot (a .taken) (state .monitor)) e (forgot-range (a .taken) (state .monitor) (r .monitor-in)))
       (λ _. blank-range 48 (omega arith))
 
-  leaving-held : (e : Expected) (held done : List ℕ) → unitOutcome s state a e unit held done .after .held ≡ heldIn s (a .pointer)
+  leaving-held : (e : Settings) (held done : List ℕ) → unitOutcome s state a e unit held done .after .held ≡ heldIn s (a .pointer)
   unfolding unitOutcome receivedNormal silence bothSeen beginIn
   leaving-held e held done =
       by-test (λ (l : UnitOutcome). l .after .held ≡ heldIn s (a .pointer)) (pointer.isNormal (a .pointer .state))
@@ -100,9 +100,9 @@ module _ (s : Shape) (f : Fit s) (state : State) (r : Ranged s state) (unit : Li
       (λ n. sym (held-silent s (a .pointer .state) n))
 
   -- so is the state that is told
-  told-kept : (e : Expected) (flags : Flags) (held done : List ℕ) → Ranged s (told (a .pointer) (state .total) (unitOutcome s state a e unit held done .after) e flags .state)
+  told-kept : (e : Settings) (held done : List ℕ) → Ranged s (told (a .pointer) (state .total) (unitOutcome s state a e unit held done .after) e .state)
   unfolding told
-  told-kept e flags held done = record { pointer-in = pointer-kept; monitor-in = leaving-monitor e held done; held-is = leaving-held e held done }
+  told-kept e held done = record { pointer-in = pointer-kept; monitor-in = leaving-monitor e held done; held-is = leaving-held e held done }
 
 -- ---- one call, refused or not
 
@@ -110,8 +110,8 @@ pub call-in-range : (s : Shape) (c : SinkCall) (state : State) → Fit s → sin
 unfolding sink refusing
 call-in-range s c state f h =
     outcome-by (λ (o : ReceivedOutcome). sinkOutOfRange s (o .received .state) ≡ false)
-    (sinkFaults s state (c .expected .label) (c .expected .trace) (length (c .unit)) (length (c .held)) (length (c .done)))
-    (in-range s _ (told-kept s f state (ranged s state h) (c .unit) (c .expected) (c .flags) (c .held) (c .done)))
+    (sinkFaults s state (c .settings .label) (c .settings .trace) (length (c .unit)) (length (c .held)) (length (c .done)))
+    (in-range s _ (told-kept s f state (ranged s state h) (c .unit) (c .settings) (c .held) (c .done)))
     (λ _. h)
 
 -- ---- any row of calls

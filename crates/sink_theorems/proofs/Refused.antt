@@ -20,7 +20,7 @@ use Rattle.sink_theorems.specs.Reach.{SinkCall, sinkCalled}
 
 -- all that is wrong with a call
 abbrev pub faults : Shape → State → SinkCall → List (Fault Refusal)
-faults s state c = sinkFaults s state (c .expected .label) (c .expected .trace) (length (c .unit)) (length (c .held)) (length (c .done))
+faults s state c = sinkFaults s state (c .settings .label) (c .settings .trace) (length (c .unit)) (length (c .held)) (length (c .done))
 
 -- a call is refused by the first thing wrong with it, and done where nothing is: it never refuses otherwise
 pub answer-is : (s : Shape) (state : State) (c : SinkCall) → sinkCalled s state c .received .answer ≡ answerOf (faults s state c)
@@ -63,6 +63,6 @@ later-not-8 false false false false h = let n : _≡_ {A = ℕ} 0 8 = ap answerN
 pub not-8 : (s : Shape) (state : State) (c : SinkCall) → sinkOutOfRange s state ≡ false → sinkCalled s state c .received .answer ≡ Refused wrong.State → ⊥
 unfolding sinkFaults due
 not-8 s state c h e =
-    later-not-8 (labelRefused (c .expected .label)) (traceRefused (c .expected .trace)) (not (eqb (length (c .unit)) (unitLength s)))
+    later-not-8 (labelRefused (c .settings .label)) (traceRefused (c .settings .trace)) (not (eqb (length (c .unit)) (unitLength s)))
     (not (eqb (length (c .held)) (s .size)) || not (eqb (length (c .done)) (s .size)))
     (rw h at (sym (answer-is s state c) ∙ e))

@@ -3,14 +3,14 @@ use mathlib.Core.List.{List, [], _∷_}
 use Prim.Native.Nat.{ℕ}
 use Rattle.shape.specs.declared.Shape.{Shape}
 use Rattle.view.specs.View.{handedBack}
-use Rattle.monitor.specs.declared.Expected.{Expected}
-use Rattle.unit_end.specs.declared.Flags.{Flags}
+use Rattle.settings.specs.declared.Settings.{Settings}
+use Rattle.settings.specs.declared.Flags.{Flags}
 use Rattle.sink.specs.Sink.{freshSink, ReceivedOutcome, sink}
 use Rattle.sink.specs.declared.State.{State}
 
 -- what a call is given beside the state
 pub record SinkCall : Type 0 where
-  pub expected : Expected
+  pub expected : Settings
   pub flags : Flags
   pub unit : List ℕ
   pub held : List ℕ
@@ -18,7 +18,7 @@ pub record SinkCall : Type 0 where
 
 -- what it leaves, and the state among it
 abbrev pub sinkCalled : Shape → State → SinkCall → ReceivedOutcome
-sinkCalled s state c = sink s state (c .expected) (c .flags) (c .unit) (c .held) (c .done)
+sinkCalled s state c = sink s state (c .settings) (c .unit) (c .held) (c .done)
 
 unfoldable pub afterCalls : Shape → State → List SinkCall → State
 afterCalls s state [] = state

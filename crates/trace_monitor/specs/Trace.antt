@@ -31,36 +31,30 @@ spoils place j1 = cond (leb 0x80 j1) (ltb 0 place) (cond (eqb place 0) true (leb
 
 -- "at a run of three or more equal ones the message is accepted, and dTIM becomes: accepted differs from expected";
 -- "a good message puts the count to 0, whatever it was"
-abbrev pub acceptedAt : ℕ → Trace → Gathered → List ℕ → Trace
-acceptedAt run t g expected =
+unfoldable pub withGood : Trace → Gathered → List ℕ → Trace
+withGood t g expected =
+    let run = runOn (alike (g .chars) (t .last)) (t .run) 3 in
     cond (leb 3 run)
     (record { gathered = g; last = g .chars; run = run; known = true; accepted = g .chars; without = 0; tim = not (alike (g .chars) expected) })
     (record { gathered = g; last = g .chars; run = run; known = t .known; accepted = t .accepted; without = 0; tim = t .tim })
 
-unfoldable pub withGood : Trace → Gathered → List ℕ → Trace
-withGood t g expected = acceptedAt (runOn (alike (g .chars) (t .last)) (t .run) 3) t g expected
-
 -- ---- a container without
 
 -- "48 containers without a good message set dTIM and the message run to 0, and so does each later one without"; what spoils a message "sets the message run to 0"
-abbrev pub withoutAt : ℕ → Trace → Gathered → Bool → Trace
-withoutAt n t g spoilt =
+unfoldable pub withoutGood : Trace → Gathered → Bool → Trace
+withoutGood t g spoilt =
+    let n = more (t .without) 48 in
     cond (leb 48 n)
     (record { gathered = g; last = t .last; run = 0; known = t .known; accepted = t .accepted; without = n; tim = true })
     (record { gathered = g; last = t .last; run = cond spoilt 0 (t .run); known = t .known; accepted = t .accepted; without = n; tim = t .tim })
 
-unfoldable pub withoutGood : Trace → Gathered → Bool → Trace
-withoutGood t g spoilt = withoutAt (more (t .without) 48) t g spoilt
-
 -- ---- the machine
 
 -- one more container, g being what is gathered with its byte
-abbrev pub traceAt : Gathered → Trace → ℕ → List ℕ → Trace
-traceAt g t j1 expected =
-    cond (endsGood (t .gathered .place) j1 g) (withGood t g expected) (withoutGood t g (spoils (t .gathered .place) j1))
-
 unfoldable pub traceOf : Trace → ℕ → List ℕ → Trace
-traceOf t j1 expected = traceAt (gatheredOf (t .gathered) j1) t j1 expected
+traceOf t j1 expected =
+    let g = gatheredOf (t .gathered) j1 in
+    cond (endsGood (t .gathered .place) j1 g) (withGood t g expected) (withoutGood t g (spoils (t .gathered .place) j1))
 
 -- nothing gathered, nothing accepted, dTIM not set, and the count given
 unfoldable pub blankTrace : ℕ → Trace

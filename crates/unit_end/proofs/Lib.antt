@@ -1,2 +1,3 @@
 pub mod Decide
+pub mod Formulas
 pub mod Together

@@ -8,10 +8,11 @@ use lib.ListN.{getD}
 use Rattle.trace_monitor.specs.Trace.{blankTrace}
 use Rattle.monitor.specs.declared.Monitor.{Monitor}
 use Rattle.monitor.specs.Monitoring.{blankOf}
-use Rattle.unit_end.specs.declared.Flags.{Flags}
+use Rattle.settings.specs.declared.Flags.{Flags}
 use Rattle.unit_end.specs.declared.Defects.{Defects}
 use Rattle.unit_end.specs.declared.Causes.{Causes}
-use Rattle.unit_end.specs.Report.{defectsOf, causesAt, causesOf}
+use Rattle.unit_end.specs.Terms.{has, orAny, andAll, andNone, termination}
+use Rattle.unit_end.specs.Actions.{defectsOf, causesOf, noDefects}
 use Rattle.unit_end.specs.Together.{Cause, cAIS, cLOP, cSSF, cUNEQ, cTIM, cRDI, cPLM, stands, partners, causePlace, among, related}
 use Rattle.unit_end.proofs.Decide.{unless, all, all-at, every, every-at}
 
@@ -36,7 +37,7 @@ paired : Causes → Cause → Cause → Bool
 paired c a b = not (stands c a) || (not (stands c b) || among b (a ∷ partners a))
 
 pairedWhere : Bool → Bool → Defects → Flags → Bool
-pairedWhere alarm lost d f = not (related alarm lost d) || every (λ a. every (paired (causesOf alarm lost d f) a) causes) causes
+pairedWhere alarm lost d f = not (related alarm lost d) || every (λ a. every (paired (causesOf termination alarm lost d f) a) causes) causes
 
 -- ---- at every state, with every defect and flag
 
@@ -48,7 +49,7 @@ flagsAt bs = record { monitored = getD bs 6 false; rdi = getD bs 7 false; ssf = 
 
 -- computed at all 1024
 all-paired : all 10 (λ bs. pairedWhere (getD bs 0 false) (getD bs 1 false) (defectsAt bs) (flagsAt bs)) ≡ true
-unfolding all every causes pairedWhere paired defectsAt flagsAt related causesAt causesOf stands partners causePlace among
+unfolding all every causes pairedWhere paired defectsAt flagsAt related has orAny andAll andNone causesOf stands partners causePlace among
 all-paired = refl
 
 paired-where : (alarm lost : Bool) (d : Defects) (f : Flags) → pairedWhere alarm lost d f ≡ true
@@ -62,11 +63,11 @@ paired-where alarm lost d f =
 -- Of two causes that stand, the second is the first or one of its partners.
 pub together :
     (alarm lost : Bool) (d : Defects) (f : Flags) → related alarm lost d ≡ true
-    → (a b : Cause) → stands (causesOf alarm lost d f) a ≡ true → stands (causesOf alarm lost d f) b ≡ true
+    → (a b : Cause) → stands (causesOf termination alarm lost d f) a ≡ true → stands (causesOf termination alarm lost d f) b ≡ true
     → among b (a ∷ partners a) ≡ true
 unfolding pairedWhere paired
 together alarm lost d f h a b p q =
-    let c = causesOf alarm lost d f in
+    let c = causesOf termination alarm lost d f in
     let e = unless (related alarm lost d) (every (λ a. every (paired c a) causes) causes) h (paired-where alarm lost d f) in
     let k = cause-at (paired c a) (cause-at (λ a. every (paired c a) causes) e a) b in
     unless (stands c b) (among b (a ∷ partners a)) q (unless (stands c a) (not (stands c b) || among b (a ∷ partners a)) p k)
@@ -89,15 +90,12 @@ normal-related d = refl
 abbrev pub allFlags : Flags
 allFlags = record { monitored = true; rdi = true; ssf = true; ais = true }
 
-abbrev pub noDefects : Defects
-noDefects = record { uneq = false; tim = false; plm = false; rdi = false }
-
 abbrev pub plmAndRdi : Defects
 plmAndRdi = record { uneq = false; tim = false; plm = true; rdi = true }
 
 pub pairs-stand :
-    (causesOf true false noDefects allFlags ≡ record { ais = true; lop = false; ssf = true; uneq = false; tim = false; rdi = false; plm = false })
-    × (causesOf false true noDefects allFlags ≡ record { ais = false; lop = true; ssf = true; uneq = false; tim = false; rdi = false; plm = false })
-    × (causesOf false false plmAndRdi allFlags ≡ record { ais = false; lop = false; ssf = false; uneq = false; tim = false; rdi = true; plm = true })
-unfolding causesAt causesOf
+    (causesOf termination true false noDefects allFlags ≡ record { ais = true; lop = false; ssf = true; uneq = false; tim = false; rdi = false; plm = false })
+    × (causesOf termination false true noDefects allFlags ≡ record { ais = false; lop = true; ssf = true; uneq = false; tim = false; rdi = false; plm = false })
+    × (causesOf termination false false plmAndRdi allFlags ≡ record { ais = false; lop = false; ssf = false; uneq = false; tim = false; rdi = true; plm = true })
+unfolding has orAny andAll andNone causesOf
 pairs-stand = (refl, refl, refl)

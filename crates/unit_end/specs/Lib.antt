@@ -1,2 +1,4 @@
-pub mod Report
+pub mod Terms
+pub mod Actions
+pub mod Settled
 pub mod Together

@@ -5,7 +5,7 @@ use mathlib.Core.List.{List, [], _∷_}
 use lib.Dec.{eqb}
 use Rattle.unit_end.specs.declared.Defects.{Defects}
 use Rattle.unit_end.specs.declared.Causes.{Causes}
-use Rattle.unit_end.specs.Report.{ssfOf}
+use Rattle.unit_end.specs.Actions.{ssfOf}
 
 -- ---- a cause
 

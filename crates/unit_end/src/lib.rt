@@ -1,16 +1,11 @@
-// What is told at a unit's end: actions and causes, whether it ended settled, and the unsettled total. The definitions stand in specs/Report.antt;
-// proofs/Together.antt says which causes stand together. The sink calls these once a unit, after its last container.
+// What is told at a unit's end: actions and causes, whether it ended settled, and the unsettled total. The definitions stand in specs/: Terms (which defects count
+// where), Actions (actions and causes), Settled. proofs/Together.antt says which causes stand together. The sink calls these once a unit, after its last container.
 ghost use mathlib.Core.Path.{_≡_};
-ghost use Rattle.unit_end.specs.Report.{flagsOf, defectsOf, tsfOf, actionsOf, causesAt, causesOf, noneStands, labelExpected, traceExpected, settledOf, totalOf};
-
-// A circuit's flags: monitored, and which of RDI, SSF and AIS are reported.
-#[repr(C)]
-pub struct Flags {
-    pub monitored: bool,
-    pub rdi: bool,
-    pub ssf: bool,
-    pub ais: bool,
-}
+ghost use Rattle.unit_end.specs.Terms.{termination};
+ghost use Rattle.unit_end.specs.Actions.{defectsOf, tsfOf, actionsOf, causesOf};
+ghost use Rattle.unit_end.specs.Settled.{noneStands, labelExpected, traceExpected, settledOf, totalOf};
+use settings::Flags;
+use settings::Settings;
 
 // dUNEQ, dTIM, dPLM, dRDI.
 #[repr(C)]
@@ -42,40 +37,28 @@ pub struct Causes {
     pub plm: bool,
 }
 
-// The sink's four flags, of the flags byte of a circuit in the catalogue. What a catalogue refuses, a byte above 15, has no more to say here.
-pub fn flags_of(byte: u8) -> Flags
-    ensures { λ r. ⌜ r ≡ flagsOf byte ⌝ }
-{
-    Flags {
-        monitored: byte % 2 == 1,
-        rdi: byte / 2 % 2 == 1,
-        ssf: byte / 4 % 2 == 1,
-        ais: byte / 8 % 2 == 1,
-    }
-}
-
 // The defects that the monitor has.
 pub fn defects_of(m: monitor::Monitor) -> Defects
     ensures { λ r. ⌜ r ≡ defectsOf m ⌝ }
 {
     Defects {
-        uneq: m.uneq.stands,
-        tim: m.trace.tim,
-        plm: m.label.plm,
-        rdi: m.rdi.stands,
+        uneq: m.watch.uneq.stands,
+        tim: m.watch.trace.tim,
+        plm: m.watch.plm,
+        rdi: m.watch.rdi.stands,
     }
 }
 
 // TSF: what actions and causes have in common.
 fn tsf(ssf: bool, d: Defects) -> bool
-    ensures { λ r. ⌜ r ≡ tsfOf ssf d ⌝ }
+    ensures { λ r. ⌜ r ≡ tsfOf termination ssf d ⌝ }
 {
     ssf | d.uneq | d.tim
 }
 
 // The actions at a unit's end.
 pub fn actions_of(ssf: bool, d: Defects) -> Actions
-    ensures { λ r. ⌜ r ≡ actionsOf ssf d ⌝ }
+    ensures { λ r. ⌜ r ≡ actionsOf termination ssf d ⌝ }
 {
     let plm = d.plm;
     let tsf = tsf(ssf, d);
@@ -87,27 +70,20 @@ pub fn actions_of(ssf: bool, d: Defects) -> Actions
     }
 }
 
-// The causes, TSF being given.
-fn causes_at(tsf: bool, alarm: bool, lost: bool, d: Defects, f: Flags) -> Causes
-    ensures { λ r. ⌜ r ≡ causesAt tsf alarm lost d f ⌝ }
+// The causes at a unit's end: the state is alarm, or lost, or neither. cAIS, cLOP and cPLM do not ask for monitored.
+pub fn causes_of(alarm: bool, lost: bool, d: Defects, f: Flags) -> Causes
+    ensures { λ r. ⌜ r ≡ causesOf termination alarm lost d f ⌝ }
 {
+    let tsf = tsf(alarm | lost, d);
     Causes {
         ais: alarm & f.ais,
         lop: lost,
         ssf: (alarm | lost) & f.monitored & f.ssf,
-        uneq: d.uneq & f.monitored,
-        tim: d.tim & !d.uneq & f.monitored,
-        rdi: d.rdi & !d.uneq & !d.tim & f.monitored & f.rdi,
-        plm: d.plm & !tsf,
+        uneq: f.monitored & d.uneq,
+        tim: f.monitored & d.tim & !d.uneq,
+        rdi: f.monitored & f.rdi & d.rdi & !d.uneq & !d.tim,
+        plm: !tsf & d.plm,
     }
-}
-
-// The causes at a unit's end: the state is alarm, or lost, or neither. cAIS, cLOP and cPLM do not ask for monitored.
-pub fn causes_of(alarm: bool, lost: bool, d: Defects, f: Flags) -> Causes
-    ensures { λ r. ⌜ r ≡ causesOf alarm lost d f ⌝ }
-{
-    let tsf = tsf(alarm | lost, d);
-    causes_at(tsf, alarm, lost, d, f)
 }
 
 // Whether no defect stands.
@@ -118,11 +94,11 @@ fn none_stands(d: Defects) -> bool
 }
 
 // Whether a label is accepted, and is one to expect now: dPLM was renewed by the last container, which may have been told of another.
-fn label_expected(l: overhead::Label, expected: u8) -> bool
-    ensures { λ r. ⌜ r ≡ labelExpected l expected ⌝ }
+fn label_expected(a: overhead::Accepted, expected: u8) -> bool
+    ensures { λ r. ⌜ r ≡ labelExpected a expected ⌝ }
 {
-    let known = l.known;
-    known & overhead::label_fits(l.accepted, expected)
+    let known = a.known;
+    known & overhead::label_fits(a.value, expected)
 }
 
 // Whether a trace is accepted, and is the expected one.
@@ -136,11 +112,11 @@ fn trace_expected(t: trace_monitor::Trace, expected: [u8; 15]) -> bool
 }
 
 // Whether a unit that left this monitor ended settled.
-pub fn settled(normal: bool, m: monitor::Monitor, e: monitor::Expected) -> bool
+pub fn settled(normal: bool, m: monitor::Monitor, e: Settings) -> bool
     ensures { λ r. ⌜ r ≡ settledOf normal m e ⌝ }
 {
-    let label = m.label;
-    let trace = m.trace;
+    let label = m.watch.label;
+    let trace = m.watch.trace;
     let expected = e.trace;
     let d = defects_of(m);
     normal & none_stands(d) & label_expected(label, e.label) & trace_expected(trace, expected)

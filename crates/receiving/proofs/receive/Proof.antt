@@ -7,8 +7,8 @@ use Rattle.receiving.proofs.receive.Tie as tie
 goes-on-requires : tie.Need-goes-on-requires
 goes-on-requires c κs = search needs
 
-forget-requires : tie.Need-forget-requires
-forget-requires c κs = search needs
+monitor-in-requires : tie.Need-monitor-in-requires
+monitor-in-requires c κs = search needs
 
 cut-unit-requires : tie.Need-cut-unit-requires
 cut-unit-requires c κs = search line-is
@@ -22,20 +22,25 @@ same-length c = search needs
 same-length-2 : tie.Need-same-length-2
 same-length-2 c = search needs
 
+-- the stages, each counted from the one after it: the unit cut, the monitor that its containers meet, where it goes on, the call
 returns : tie.Need-returns
 returns c =
-    let a = c .before .before .before .before .before .before .before .before .before .before .before .before .before .before in
-    let k = c .before .before .before .before .before .before .cut-unit in
-    unit-leaves (a .args .shape) (a .args .t) (a .args .offset) (a .args .count) (a .args .unit .now) (a .args .held .now) (a .args .done .now) (a .pre)
-    (c .before .before .before .before .before .before .before .before .before .before .goes-on .result) (c .before .before .before .before .before .before .before .before .before .before .goes-on .ensures) (k .result) (k .last .1 .1 .1 .1 .0) (k .last .1 .1 .1 .1 .1 .0) (k .ensures)
-    (a .args .m) (c .before .before .before .before .before .before .before .before .before .forget .result) (a .args .e) (c .watch-both .result) (c .before .before .before .before .before .before .before .before .before .forget .ensures) (c .watch-both .ensures)
+    let cut = c .before .before .before .before .before .before in
+    let met = cut .before .before .before in
+    let on = met .before in
+    let call = on .before .before .before .before in
+    let a = call .args in
+    let k = cut .cut-unit in
+    unit-leaves (a .shape) (a .t) (a .offset) (a .count) (a .unit .now) (a .held .now) (a .done .now) (call .pre)
+    (on .goes-on .result) (on .goes-on .ensures) (k .result) (k .last .1 .1 .1 .1 .0) (k .last .1 .1 .1 .1 .1 .0) (k .ensures)
+    (a .m) (met .monitor-in .result) (a .e) (c .watch-both .result) (met .monitor-in .ensures) (c .watch-both .ensures)
 
 pub receive-spec : {M : Type 1} → statement M
 receive-spec =
     tie.close
     (tie.spec
     goes-on-requires
-    forget-requires
+    monitor-in-requires
     cut-unit-requires
     watch-both-requires
     same-length

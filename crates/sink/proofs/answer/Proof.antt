@@ -1,5 +1,5 @@
 -- `sink::answer` meets its contract: the first test that says so decides, in the order of `sinkFaults`. Assumes nothing.
-use Rattle.sink.proofs.Refuses.{wrong-state, wrong-label, wrong-trace, wrong-unit, wrong-buffer, nothing-wrong}
+use Rattle.sink.proofs.Refuses.{wrong-state, wrong-settings, wrong-unit, wrong-buffer, nothing-wrong}
 use borrow.Author.Needs.{needs}
 use Rattle.sink.proofs.answer.Statement.{statement}
 use Rattle.sink.proofs.answer.Tie as tie
@@ -10,35 +10,32 @@ out-of-range-requires c κs = search needs
 returns : tie.Need-returns
 returns c = search wrong-state
 
-label-refused-requires : tie.Need-label-refused-requires
-label-refused-requires c κs = search needs
+answer-requires : tie.Need-answer-requires
+answer-requires c κs = search needs
+
+enum-known-x : tie.Need-enum-known-x
+enum-known-x c = search needs
 
 returns-2 : tie.Need-returns-2
-returns-2 c = search wrong-label
+returns-2 c = search wrong-settings
 
-slice-aggregate-trace-refused : tie.Need-slice-aggregate-trace-refused
-slice-aggregate-trace-refused c = search needs
+enum-told : tie.Need-enum-told
+enum-told c = search needs
 
-trace-refused-requires : tie.Need-trace-refused-requires
-trace-refused-requires c κs = search needs
+mul-if2 : tie.Need-mul-if2
+mul-if2 c = search needs
+
+add-if2 : tie.Need-add-if2
+add-if2 c = search needs
 
 returns-3 : tie.Need-returns-3
-returns-3 c = search wrong-trace
-
-mul-if4 : tie.Need-mul-if4
-mul-if4 c = search needs
-
-add-if4 : tie.Need-add-if4
-add-if4 c = search needs
+returns-3 c = search wrong-unit
 
 returns-4 : tie.Need-returns-4
-returns-4 c = search wrong-unit
+returns-4 c = search wrong-buffer
 
 returns-5 : tie.Need-returns-5
-returns-5 c = search wrong-buffer
-
-returns-6 : tie.Need-returns-6
-returns-6 c = search nothing-wrong
+returns-5 c = search nothing-wrong
 
 pub answer-spec : {M : Type 1} → statement M
 answer-spec =
@@ -46,13 +43,12 @@ answer-spec =
     (tie.spec
     out-of-range-requires
     returns
-    label-refused-requires
+    answer-requires
+    enum-known-x
     returns-2
-    slice-aggregate-trace-refused
-    trace-refused-requires
+    enum-told
+    mul-if2
+    add-if2
     returns-3
-    mul-if4
-    add-if4
     returns-4
-    returns-5
-    returns-6)
+    returns-5)

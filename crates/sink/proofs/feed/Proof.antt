@@ -34,12 +34,18 @@ same-length c = search needs
 same-length-2 : tie.Need-same-length-2
 same-length-2 c = search needs
 
+-- the stages, each counted from the one after it: the unit taken, its word read, nothing wrong, the answer, the call
 returns-2 : tie.Need-returns-2
 returns-2 c =
-    let a = c .before .before .before .before .before .before .before .before .before .before .before .before .before .before .before .before .before .args in
-    let l = c .before .before .before .before .before .before .take-unit in
-    feed-done (a .shape) (a .s) (a .e) (a .flags) (a .unit .now) (a .held .now) (a .done .now) (c .before .before .before .before .before .before .before .before .before .before .before .before .before .answer .result) (c .before .before .before .before .before .before .before .before .before .before .before .before .before .answer .ensures) (c .before .before .before .before .before .before .before .before .before .before .before .enum-told .given .1)
-    (c .before .before .before .before .before .before .before .before .before .point .result) (c .before .before .before .before .before .before .before .before .before .point .ensures) (l .result) (l .last .1 .1 .1 .1 .1 .0) (l .last .1 .1 .1 .1 .1 .1 .0) (c .tell .result) (l .ensures) (c .tell .ensures)
+    let taken = c .before .before .before .before .before .before in
+    let word = taken .before .before .before in
+    let fine = word .before .before in
+    let asked = fine .before .before in
+    let call = asked .before .before .before .before in
+    let a = call .args in
+    let l = taken .take-unit in
+    feed-done (a .shape) (a .s) (a .e) (a .unit .now) (a .held .now) (a .done .now) (asked .answer .result) (asked .answer .ensures) (fine .enum-told .given .1)
+    (word .point .result) (word .point .ensures) (l .result) (l .last .1 .1 .1 .1 .1 .0) (l .last .1 .1 .1 .1 .1 .1 .0) (c .tell .result) (l .ensures) (c .tell .ensures)
 
 pub feed-spec : {M : Type 1} → statement M
 feed-spec =

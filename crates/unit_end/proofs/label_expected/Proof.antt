@@ -1,5 +1,5 @@
 -- `unit_end::label_expected` meets its contract: accepted, and one to expect. Assumes nothing.
-use Rattle.unit_end.specs.Report.{labelExpected}
+use Rattle.unit_end.specs.Settled.{labelExpected}
 use borrow.Author.Needs.{needs}
 use Rattle.unit_end.proofs.label_expected.Statement.{statement}
 use Rattle.unit_end.proofs.label_expected.Tie as tie

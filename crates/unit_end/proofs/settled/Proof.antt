@@ -1,5 +1,5 @@
 -- `unit_end::settled` meets its contract: the three conditions, in a normal state. Assumes nothing.
-use Rattle.unit_end.specs.Report.{settledOf}
+use Rattle.unit_end.specs.Settled.{settledOf}
 use borrow.Author.Needs.{needs}
 use Rattle.unit_end.proofs.settled.Statement.{statement}
 use Rattle.unit_end.proofs.settled.Tie as tie

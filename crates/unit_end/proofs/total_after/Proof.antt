@@ -1,6 +1,6 @@
 -- `unit_end::total_after` meets its contract: one more, and no more than 65535. Assumes nothing.
 use native.Mathlib.Omega.{arith}
-use Rattle.unit_end.specs.Report.{totalOf}
+use Rattle.unit_end.specs.Settled.{totalOf}
 use borrow.Author.Needs.{needs}
 use Rattle.unit_end.proofs.total_after.Statement.{statement}
 use Rattle.unit_end.proofs.total_after.Tie as tie

@@ -1,5 +1,5 @@
 -- `unit_end::trace_expected` meets its contract: accepted, and the same. Assumes nothing.
-use Rattle.unit_end.specs.Report.{traceExpected}
+use Rattle.unit_end.specs.Settled.{traceExpected}
 use borrow.Author.Needs.{needs}
 use Rattle.unit_end.proofs.trace_expected.Statement.{statement}
 use Rattle.unit_end.proofs.trace_expected.Tie as tie

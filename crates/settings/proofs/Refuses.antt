@@ -1,0 +1,41 @@
+-- The answer to a call, as far as its label and its trace go, by the tests that led to it; and each row has its case's number. Assumes nothing.
+use mathlib.Core.Path.{_≡_, refl, _∙_}
+use mathlib.Core.Bool.{Bool, true, false}
+use mathlib.Core.List.{List}
+use Prim.Native.Nat.{ℕ}
+use Rattle.refusals.specs.Refusals.{due, numberOf, says, answerOf}
+use Rattle.refusals.specs.declared.Answer.{Answer}
+use Rattle.refusals.specs.declared.Answer.the-variants.{Done, Refused}
+use Rattle.refusals.specs.declared.Refusal.the-variants.{Label, Trace}
+use Rattle.refusals.proofs.Wrong.{due-none, due-false, Numbered, numbered-row, numbered-last}
+use Rattle.settings.specs.declared.Settings.{Settings}
+use Rattle.settings.specs.Settings.{labelRefused, traceRefused}
+use Rattle.settings.specs.Faults.{pathFaults, settingsFaults}
+
+module _ (label : ℕ) (trace : List ℕ) where
+  module _ (l : Bool) (is-l : l ≡ labelRefused label) where
+    pub wrong-label : l ≡ true → Refused Label ≡ answerOf (pathFaults label trace)
+    unfolding pathFaults due answerOf
+    wrong-label h = rw (← is-l, h) refl
+
+    module _ (l-no : l ≡ false) (t : Bool) (is-t : t ≡ traceRefused trace) where
+      pub wrong-trace : t ≡ true → Refused Trace ≡ answerOf (pathFaults label trace)
+      unfolding pathFaults due answerOf
+      wrong-trace h = rw (← is-l, l-no, ← is-t, h) refl
+
+      pub nothing-wrong : t ≡ false → Done ≡ answerOf (pathFaults label trace)
+      unfolding pathFaults due answerOf
+      nothing-wrong h = rw (← is-l, l-no, ← is-t, h) refl
+
+  pub path-numbered : Numbered says (pathFaults label trace)
+  unfolding pathFaults says numberOf
+  path-numbered = search (numbered-row, numbered-last)
+
+-- the settings' answer is that of their label and trace
+pub settings-answer : (e : Settings) (r : Answer) → r ≡ answerOf (pathFaults (e .label) (e .trace)) → r ≡ answerOf (settingsFaults e)
+unfolding settingsFaults
+settings-answer e r h = h
+
+pub settings-numbered : (e : Settings) → Numbered says (settingsFaults e)
+unfolding settingsFaults
+settings-numbered e = path-numbered (e .label) (e .trace)
