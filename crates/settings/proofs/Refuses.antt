@@ -1,13 +1,14 @@
 -- The answer to a call, as far as its label and its trace go, by the tests that led to it; and each row has its case's number. Assumes nothing.
-use mathlib.Core.Path.{_≡_, refl, _∙_}
+use mathlib.Core.Path.{_≡_, refl, ap, _∙_}
 use mathlib.Core.Bool.{Bool, true, false}
-use mathlib.Core.List.{List}
+use mathlib.Core.List.{List, _++_}
 use Prim.Native.Nat.{ℕ}
-use Rattle.refusals.specs.Refusals.{due, numberOf, says, answerOf}
+use native.Mathlib.Omega.{arith}
+use Rattle.refusals.specs.Refusals.{due, given, numberOf, answerNumber, says, answerOf}
 use Rattle.refusals.specs.declared.Answer.{Answer}
 use Rattle.refusals.specs.declared.Answer.the-variants.{Done, Refused}
-use Rattle.refusals.specs.declared.Refusal.the-variants.{Label, Trace}
-use Rattle.refusals.proofs.Wrong.{due-none, due-false, Numbered, numbered-row, numbered-last}
+use Rattle.refusals.specs.declared.Refusal.the-variants.{Label, Trace, State}
+use Rattle.refusals.proofs.Wrong.{Numbered, numbered-row, numbered-last}
 use Rattle.settings.specs.declared.Settings.{Settings}
 use Rattle.settings.specs.Settings.{labelRefused, traceRefused}
 use Rattle.settings.specs.Faults.{pathFaults, settingsFaults}
@@ -39,3 +40,19 @@ settings-answer e r h = h
 pub settings-numbered : (e : Settings) → Numbered says (settingsFaults e)
 unfolding settingsFaults
 settings-numbered e = path-numbered (e .label) (e .trace)
+
+-- settings are not refused by 8
+path-not-8 : (l t : Bool) → answerOf (given 4 Label l ++ given 5 Trace t) ≡ Refused State → ⊥
+unfolding due answerOf answerNumber numberOf
+path-not-8 true t h = let n : _≡_ {A = ℕ} 4 8 = ap answerNumber h in absurd (omega arith)
+path-not-8 false true h = let n : _≡_ {A = ℕ} 5 8 = ap answerNumber h in absurd (omega arith)
+path-not-8 false false h = let n : _≡_ {A = ℕ} 0 8 = ap answerNumber h in absurd (omega arith)
+
+pub settings-not-8 : (e : Settings) → answerOf (settingsFaults e) ≡ Refused State → ⊥
+unfolding settingsFaults pathFaults
+settings-not-8 e = path-not-8 (labelRefused (e .label)) (traceRefused (e .trace))
+
+-- settings of a label and a trace that are not refused are good
+pub settings-good : (e : Settings) → labelRefused (e .label) ≡ false → traceRefused (e .trace) ≡ false → Done ≡ answerOf (settingsFaults e)
+unfolding settingsFaults pathFaults due answerOf
+settings-good e l t = rw (l, t) refl

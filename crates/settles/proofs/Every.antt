@@ -12,7 +12,7 @@ use Rattle.unit_source.specs.Source as unit-source
 use Rattle.unit_source_theorems.specs.Stream as stream
 use Rattle.settles_stream.specs.InOrder.{boxes, watchedAll, violationsAll, violationsTold}
 use Rattle.settles_stream.proofs.Together.{boxes-append}
-use Rattle.unit_end.specs.Report.{settledOf, totalOf}
+use Rattle.unit_end.specs.Settled.{settledOf, totalOf}
 use Rattle.sink.specs.Sink as sink
 use Rattle.settles.specs.Demand.{Run, Path, pathAfter, pathAt, sentAt, fedAt, madeAt, receivedAt, handedAt, unsettled, handedFrom, endedFrom}
 use Rattle.settles.proofs.Units.{sent-is, fed-done, settled-is, total-after, normal, handed-goes, monitor-goes, told-goes}

@@ -30,7 +30,7 @@ use Rattle.settings.specs.declared.Settings.{Settings}
 use Rattle.settles_monitor.specs.Near.{Whole}
 use Rattle.settles_monitor.proofs.Settles.{whole-step, whole-blank, whole-forgot}
 use Rattle.receiving.specs.Receiving.{UnitOutcome, forgot, cutIn, watched, bothSeen, receivedNormal, silence, beginIn}
-use Rattle.unit_end.specs.Report.{totalOf}
+use Rattle.unit_end.specs.Settled.{totalOf}
 use Rattle.sink.specs.Sink.{freshSink, ReceivedOutcome, sinkOutOfRange, pointed, unitOutcome, told, refusing, sink}
 use Rattle.sink.specs.declared.State.{State}
 use Rattle.sink.proofs.Refuses.{nothing-wrong}
@@ -101,7 +101,7 @@ pub call-done : (s : Shape) (state : State) (c : SinkCall) → sinkOutOfRange s 
 call-done s state c o l t u h d =
     let both : (not (eqb (length (c .held)) (s .size)) || not (eqb (length (c .done)) (s .size))) ≡ false = simp (eq-eqb (length (c .held)) (s .size) h, eq-eqb (length (c .done)) (s .size) d) in
     answer-is s state c
-    ∙ sym (nothing-wrong s state (c .settings .label) (c .settings .trace) (length (c .unit)) (length (c .held)) (length (c .done))
+    ∙ sym (nothing-wrong s state (c .settings) (length (c .unit)) (length (c .held)) (length (c .done))
     (sinkOutOfRange s state) refl o (labelRefused (c .settings .label)) refl l (traceRefused (c .settings .trace)) refl t u both)
 
 -- it leaves both buffers as long as they were

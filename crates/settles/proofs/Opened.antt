@@ -19,7 +19,9 @@ use Rattle.overhead.specs.Defects as of-defects
 use Rattle.trace_monitor.specs.Trace as of-trace
 use Rattle.monitor.specs.Seeing as of-seeing
 use Rattle.monitor.specs.Monitoring as of-monitoring
-use Rattle.unit_end.specs.Report as of-report
+use Rattle.unit_end.specs.Terms as of-terms
+use Rattle.unit_end.specs.Actions as of-actions
+use Rattle.unit_end.specs.Settled as of-settled
 use Rattle.receiving.specs.Receiving as of-receiving
 use Rattle.sink.specs.Sink as of-sink
 use Rattle.container_source.specs.Overhead as of-making

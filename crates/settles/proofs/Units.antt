@@ -31,7 +31,8 @@ use Rattle.settles_stream.specs.InOrder.{boxes, watchedAll, violationsAll, viol
 use Rattle.settles_stream.proofs.Seen.{seen-all, told-all}
 use Rattle.settles_stream.proofs.Together.{goes-ended, goes-held, restart-held}
 use Rattle.receiving.specs.Receiving.{UnitOutcome, forgot, fromIn, beginIn, cutIn, receivedNormal}
-use Rattle.unit_end.specs.Report.{defectsOf, settledOf, totalOf}
+use Rattle.unit_end.specs.Actions.{defectsOf}
+use Rattle.unit_end.specs.Settled.{settledOf, totalOf}
 use Rattle.sink.specs.Sink as sink
 use Rattle.sink.specs.Sink.{sinkOutOfRange, pointed, unitOutcome, told}
 use Rattle.sink.proofs.Refuses.{ranged}

@@ -10,7 +10,8 @@ use Rattle.monitor.specs.declared.Overhead.{Overhead}
 use Rattle.settings.specs.declared.Settings.{Settings}
 use Rattle.monitor.specs.declared.Monitor.{Monitor}
 use Rattle.monitor.specs.Monitoring.{monitorStep}
-use Rattle.unit_end.specs.Report.{defectsOf, settledOf}
+use Rattle.unit_end.specs.Actions.{defectsOf}
+use Rattle.unit_end.specs.Settled.{settledOf}
 use Rattle.settles_monitor.specs.Near.{enough, Setting, Like}
 use Rattle.settles_monitor.proofs.Labels as labels
 use Rattle.settles_monitor.proofs.Hits.{label-again, label-hit, defect-again, defect-hit}

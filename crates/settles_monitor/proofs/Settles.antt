@@ -19,7 +19,8 @@ use Rattle.monitor.specs.declared.Overhead.{Overhead}
 use Rattle.settings.specs.declared.Settings.{Settings}
 use Rattle.monitor.specs.declared.Monitor.{Monitor}
 use Rattle.monitor.specs.Monitoring.{blankOf, monitorStep}
-use Rattle.unit_end.specs.Report.{defectsOf, noneStands, labelExpected, traceExpected, settledOf}
+use Rattle.unit_end.specs.Actions.{defectsOf}
+use Rattle.unit_end.specs.Settled.{noneStands, labelExpected, traceExpected, settledOf}
 use Rattle.pointer_rules.specs.Rules.{restarts}
 use Rattle.pointer_rules.specs.declared.Taken.{Taken}
 use Rattle.receiving.specs.Receiving.{forgot}

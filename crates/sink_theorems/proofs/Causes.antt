@@ -11,10 +11,10 @@ use Rattle.pointer.specs.declared.AfterWord.{AfterWord}
 use Rattle.monitor.specs.Monitoring.{blankOf}
 use Rattle.monitor.specs.declared.Monitor.{Monitor}
 use Rattle.receiving.specs.Receiving.{silence}
-use Rattle.unit_end.specs.Report.{defectsOf}
+use Rattle.unit_end.specs.Actions.{defectsOf, noCauses}
 use Rattle.unit_end.specs.Together.{Cause, cAIS, cLOP, cSSF, cUNEQ, cTIM, cRDI, cPLM, stands, partners, among, related}
 use Rattle.unit_end.proofs.Together.{together, cleared-related, normal-related}
-use Rattle.sink.specs.Sink.{ReceivedOutcome, noCauses, pointed, unitOutcome, told, refusing, sink}
+use Rattle.sink.specs.Sink.{ReceivedOutcome, pointed, unitOutcome, told, refusing, sink}
 use Rattle.sink.specs.declared.State.{State}
 use Rattle.sink_theorems.specs.Reach.{SinkCall, sinkCalled}
 use Rattle.sink_theorems.proofs.Refused.{faults}
@@ -47,8 +47,8 @@ pub only-pairs : (s : Shape) (state : State) (c : SinkCall) (a b : Cause)
 unfolding sink told refusing
 only-pairs s state c a b =
     let after = pointed s (state .pointer) (c .unit) in
-    let left = unitOutcome s state after (c .settings) (c .unit) (c .held) (c .done) .after in
+    let u = unitOutcome s state after (c .settings) (c .unit) (c .held) (c .done) .after in
     let x = after .pointer .state in
     outcome-by (λ (o : ReceivedOutcome). stands (o .received .causes) a ≡ true → stands (o .received .causes) b ≡ true → among b (a ∷ partners a) ≡ true) (faults s state c)
-    (together (isAlarm x) (isLost x) (defectsOf (left .monitor)) (c .flags) (state-related x (left .monitor) (silent s state after c)) a b)
+    (together (isAlarm x) (isLost x) (defectsOf (u .monitor)) (c .settings .flags) (state-related x (u .monitor) (silent s state after c)) a b)
     (λ _ h _. absurd (none-stands a h))

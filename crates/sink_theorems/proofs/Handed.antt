@@ -19,7 +19,8 @@ use Rattle.cut.proofs.Outcome.{done-length}
 use Rattle.view.specs.View.{partOf, inOrder}
 use Rattle.view.proofs.Parts.{part-whole, part-fits}
 use Rattle.receiving.specs.Receiving.{beginIn, cutIn, endedIn, bothSeen, receivedNormal, silence, Receivable}
-use Rattle.sink.specs.Sink.{ReceivedOutcome, pointed, unitOutcome, told, refusing, sink, Fed, Pointed}
+use Rattle.sink.specs.Sink.{ReceivedOutcome, pointed, unitOutcome, told, refusing, sink}
+use Rattle.sink.specs.Inner.{Fed, Pointed}
 use Rattle.sink.specs.declared.State.{State}
 use Rattle.sink.proofs.Refuses.{fed}
 use Rattle.sink.proofs.Feeds.{receivable}
@@ -49,7 +50,7 @@ module _ (s : Shape) (f : Fit s) (state : State) (c : SinkCall) (d : sinkCalled 
   a = pointed s (state .pointer) (c .unit)
 
   pub is-fed : Fed s state (length (c .unit)) (length (c .held)) (length (c .done))
-  is-fed = fed s state (c .settings .label) (c .settings .trace) (length (c .unit)) (length (c .held)) (length (c .done)) (sym (answer-is s state c) ∙ d)
+  is-fed = fed s state (c .settings) (length (c .unit)) (length (c .held)) (length (c .done)) (sym (answer-is s state c) ∙ d)
 
   -- what it leaves
   pub called-is : sinkCalled s state c ≡

@@ -23,7 +23,6 @@ use Rattle.cut.specs.Cut.{nextOf, insideOf, beginOf, cutOf, completedOf, inside
 use Rattle.cut.specs.declared.Cut.{Cut}
 use Rattle.monitor.specs.declared.Monitor.{Monitor}
 use Rattle.settings.specs.declared.Settings.{Settings}
-use Rattle.settings.specs.declared.Flags.{Flags}
 use Rattle.view.specs.View.{partOf, inOrder}
 use Rattle.receiving.specs.Receiving.{UnitOutcome, fromIn, beginIn, endedIn, bothSeen, receivedNormal, silence}
 use Rattle.sink.specs.Sink.{ReceivedOutcome, pointed, sinkFaults, unitOutcome, told, refusing, sink}
@@ -115,7 +114,7 @@ inside-later s state e unit held done =
     let a = pointed s (state .pointer) unit in
     let b = beginIn s (a .taken) (offsetOf (a .pointer .state)) (state .held) in
     outcome-by (λ (o : ReceivedOutcome). o .received .ended .inside ≡ true → b .from ≤ o .received .ended .place)
-    (sinkFaults s state (e .label) (e .trace) (length unit) (length held) (length done))
+    (sinkFaults s state e (length unit) (length held) (length done))
     (by-test (λ (l : UnitOutcome). l .after .ended .inside ≡ true → b .from ≤ l .after .ended .place) (isNormal (a .pointer .state))
     (λ _ h. rw h (next-later s (b .kept) (b .from)))
     (λ _ h. absurd (false≢true h)))

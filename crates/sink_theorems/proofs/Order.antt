@@ -4,6 +4,9 @@ use mathlib.Core.List.{List, [], _∷_, map}
 use Prim.Native.Nat.{ℕ}
 use lib.ListN.{replicate}
 use Rattle.settings.specs.Settings.{labelRefused, outside, traceRefused}
+use Rattle.settings.specs.Flags.{flagsOf}
+use Rattle.settings.specs.Faults.{pathFaults, settingsFaults}
+use Rattle.settings.specs.declared.Settings.{Settings}
 use Rattle.refusals.specs.Refusals.{numberOf, answerNumber, due, answerOf}
 use Rattle.shape.specs.Shape.{au4, heldCount}
 use Rattle.pointer_rules.specs.Rules.{noRun}
@@ -27,14 +30,13 @@ standing offset held without =
 -- "Sink: 8, 4, 5, 1, 3": each row has its own fault and all those after it in that order, the last none
 pub record Row : Type 0 where
   pub state : State
-  pub label : ℕ
-  pub trace : List ℕ
+  pub settings : Settings
   pub unit : ℕ
   pub held : ℕ
   pub done : ℕ
 
 pub row : State → ℕ → List ℕ → ℕ → ℕ → ℕ → Row
-row s l t u h d = record { state = s; label = l; trace = t; unit = u; held = h; done = d }
+row s l t u h d = record { state = s; settings = record { label = l; trace = t; flags = flagsOf 0 }; unit = u; held = h; done = d }
 
 pub rows : List Row
 rows =
@@ -53,8 +55,8 @@ rows =
     ∷ []
 
 pub answered : Row → ℕ
-answered r = answerNumber (answerOf (sinkFaults au4 (r .state) (r .label) (r .trace) (r .unit) (r .held) (r .done)))
+answered r = answerNumber (answerOf (sinkFaults au4 (r .state) (r .settings) (r .unit) (r .held) (r .done)))
 
 pub sink-order : map answered rows ≡ 8 ∷ 8 ∷ 8 ∷ 4 ∷ 4 ∷ 5 ∷ 5 ∷ 1 ∷ 1 ∷ 3 ∷ 3 ∷ 0 ∷ []
-unfolding labelRefused outside traceRefused due answerOf answerNumber numberOf heldCount pointer.offsetOf pointer.placed pointer.pointerInRange blankTrace monitor.blankOf monitor.monitorInRange sinkOutOfRange sinkFaults standing row rows answered
+unfolding labelRefused outside traceRefused pathFaults settingsFaults due answerOf answerNumber numberOf heldCount pointer.offsetOf pointer.placed pointer.pointerInRange blankTrace monitor.blankOf monitor.watchInRange sinkOutOfRange sinkFaults standing row rows answered
 sink-order = refl

@@ -13,6 +13,7 @@ use Rattle.shape.specs.Shape.{Fit, heldCount}
 use Rattle.shape.specs.declared.Shape.{Shape}
 use Rattle.shape.proofs.Offsets.{held-none}
 use Rattle.pointer_rules.specs.Rules.{restarts, adjustmentOf}
+use Rattle.pointer_rules.specs.declared.Taken.{Taken}
 use Rattle.pointer_rules.specs.declared.State as reading
 use Rattle.pointer_rules.specs.declared.State.the-variants.{Normal, Alarm, Lost}
 use Rattle.pointer.specs.Machine as pointer
@@ -25,9 +26,8 @@ use Rattle.monitor.specs.Seeing.{seenIn}
 use Rattle.monitor.specs.Monitoring as monitor
 use Rattle.monitor.specs.declared.Monitor.{Monitor}
 use Rattle.settings.specs.declared.Settings.{Settings}
-use Rattle.monitor.proofs.Ranges.{step-range, blank-range}
-use Rattle.receiving.specs.Receiving.{UnitOutcome, forgot, fromIn, beginIn, cutIn, watched, bothSeen, receivedNormal, silence}
-use Rattle.settings.specs.declared.Flags.{Flags}
+use Rattle.monitor.proofs.Ranges.{step-range, blank-range, forgot-range}
+use Rattle.receiving.specs.Receiving.{UnitOutcome, monitorIn, fromIn, beginIn, cutIn, watched, bothSeen, receivedNormal, silence}
 use Rattle.sink.specs.Sink.{freshSink, ReceivedOutcome, heldIn, sinkOutOfRange, sinkFaults, pointed, unitOutcome, told, refusing, sink}
 use Rattle.sink.specs.declared.State.{State}
 use Rattle.sink.proofs.Refuses.{Ranged, ranged, in-range}
@@ -36,13 +36,8 @@ use Rattle.sink_theorems.specs.Reach.{SinkCall, sinkCalled, afterCalls, 
 
 -- ---- the monitor
 
-forgot-range : (t : _) (m : Monitor) → monitor.monitorInRange m ≡ true → monitor.monitorInRange (forgot t m) ≡ true
-unfolding forgot monitor.monitorInRange
-forgot-range t m h = go (restarts t)
-  where
-    go : (b : Bool) → monitor.monitorInRange (cond b (record { parity = record { known = false; value = 0 }; label = m .label; uneq = m .uneq; rdi = m .rdi; trace = m .trace }) m) ≡ true
-    go true = h
-    go false = h
+met-range : (t : Taken) (m : Monitor) → monitor.monitorInRange m ≡ true → monitor.monitorInRange (monitorIn t m) ≡ true
+met-range t m h = by-test (λ (n : Monitor). monitor.monitorInRange n ≡ true) (restarts t) (λ _. forgot-range m h) (λ _. h)
 
 watched-range : (b : Bool) (columns : ℕ) (container : List ℕ) (e : Settings) (m : Monitor) → monitor.monitorInRange m ≡ true → monitor.monitorInRange (watched b columns container e m .monitor) ≡ true
 unfolding watched monitor.seenOf
@@ -76,11 +71,11 @@ module _ (s : Shape) (f : Fit s) (state : State) (r : Ranged s state) (unit : Li
   goes = going (s .top) (state .pointer) _
 
   -- the held count after a unit that ends normal, by whether it restarts
-  left-by : (b : Bool) → restarts (a .taken) ≡ b → pointer.isNormal (a .pointer .state) ≡ true
+  rest-by : (b : Bool) → restarts (a .taken) ≡ b → pointer.isNormal (a .pointer .state) ≡ true
       → cutOf s (cond b 0 (state .held)) (fromIn s b (adjustmentOf (a .taken)) (pointer.offsetOf (a .pointer .state))) .rest ≡ heldIn s (a .pointer)
   unfolding fromIn
-  left-by true h n = rest-restarts s (pointer.offsetOf (a .pointer .state)) f (offset-low (s .top) (a .pointer) pointer-kept)
-  left-by false h n =
+  rest-by true h n = rest-restarts s (pointer.offsetOf (a .pointer .state)) f (offset-low (s .top) (a .pointer) pointer-kept)
+  rest-by false h n =
       rw (r .held-is, goes h n .moved)
       (rest-goes s (adjustmentOf (a .taken)) (pointer.offsetOf (state .pointer .state)) f (offset-low (s .top) (state .pointer) (r .pointer-in)))
 
@@ -89,14 +84,14 @@ module _ (s : Shape) (f : Fit s) (state : State) (r : Ranged s state) (unit : Li
   unfolding unitOutcome receivedNormal silence
   leaving-monitor e held done =
       by-test (λ (l : UnitOutcome). monitor.monitorInRange (l .after .monitor) ≡ true) (pointer.isNormal (a .pointer .state))
-      (λ _. both-range s (cutIn s (a .taken) (pointer.offsetOf (a .pointer .state)) (state .held)) _ _ (forgot (a .taken) (state .monitor)) e (forgot-range (a .taken) (state .monitor) (r .monitor-in)))
+      (λ _. both-range s (cutIn s (a .taken) (pointer.offsetOf (a .pointer .state)) (state .held)) _ _ (monitorIn (a .taken) (state .monitor)) e (met-range (a .taken) (state .monitor) (r .monitor-in)))
       (λ _. blank-range 48 (omega arith))
 
   leaving-held : (e : Settings) (held done : List ℕ) → unitOutcome s state a e unit held done .after .held ≡ heldIn s (a .pointer)
   unfolding unitOutcome receivedNormal silence bothSeen beginIn
   leaving-held e held done =
       by-test (λ (l : UnitOutcome). l .after .held ≡ heldIn s (a .pointer)) (pointer.isNormal (a .pointer .state))
-      (λ n. left-by (restarts (a .taken)) refl n)
+      (λ n. rest-by (restarts (a .taken)) refl n)
       (λ n. sym (held-silent s (a .pointer .state) n))
 
   -- so is the state that is told
@@ -110,7 +105,7 @@ pub call-in-range : (s : Shape) (c : SinkCall) (state : State) → Fit s → sin
 unfolding sink refusing
 call-in-range s c state f h =
     outcome-by (λ (o : ReceivedOutcome). sinkOutOfRange s (o .received .state) ≡ false)
-    (sinkFaults s state (c .settings .label) (c .settings .trace) (length (c .unit)) (length (c .held)) (length (c .done)))
+    (sinkFaults s state (c .settings) (length (c .unit)) (length (c .held)) (length (c .done)))
     (in-range s _ (told-kept s f state (ranged s state h) (c .unit) (c .settings) (c .held) (c .done)))
     (λ _. h)
 

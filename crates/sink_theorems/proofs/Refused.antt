@@ -1,12 +1,13 @@
 -- What a refusal of the sink leaves: the answer is the first thing wrong with the call, and the state and every byte lent are as they were. Assumes nothing.
 use mathlib.Core.Path.{_≡_, refl, sym, ap, _∙_}
 use mathlib.Core.Bool.{Bool, true, false, not, _||_}
-use mathlib.Core.List.{List, _++_}
+use mathlib.Core.List.{List, [], _∷_, _++_}
 use Prim.Native.Nat.{ℕ}
 use native.Mathlib.Omega.{arith}
 use lib.Dec.{eqb}
 use lib.ListN.{length}
-use Rattle.settings.specs.Settings.{labelRefused, traceRefused}
+use Rattle.settings.specs.Faults.{settingsFaults}
+use Rattle.settings.proofs.Refuses.{settings-not-8}
 use Rattle.refusals.specs.Refusals.{Fault, due, given, answerOf, answerNumber, numberOf}
 use Rattle.refusals.specs.declared.Refusal.{Refusal}
 use Rattle.refusals.specs.declared.Refusal.the-variants as wrong
@@ -20,7 +21,7 @@ use Rattle.sink_theorems.specs.Reach.{SinkCall, sinkCalled}
 
 -- all that is wrong with a call
 abbrev pub faults : Shape → State → SinkCall → List (Fault Refusal)
-faults s state c = sinkFaults s state (c .settings .label) (c .settings .trace) (length (c .unit)) (length (c .held)) (length (c .done))
+faults s state c = sinkFaults s state (c .settings) (length (c .unit)) (length (c .held)) (length (c .done))
 
 -- a call is refused by the first thing wrong with it, and done where nothing is: it never refuses otherwise
 pub answer-is : (s : Shape) (state : State) (c : SinkCall) → sinkCalled s state c .received .answer ≡ answerOf (faults s state c)
@@ -51,18 +52,18 @@ refused-kept s state c x =
 -- ---- refusal 8
 
 -- none of the refusals after it is 8
-later-not-8 : (l t u b : Bool) → answerOf (given 4 wrong.Label l ++ (given 5 wrong.Trace t ++ (given 1 wrong.Unit u ++ given 3 wrong.Container b))) ≡ Refused wrong.State → ⊥
+later-not-8 : (l : List (Fault Refusal)) (u b : Bool) → (answerOf l ≡ Refused wrong.State → ⊥)
+    → answerOf (l ++ (given 1 wrong.Unit u ++ given 3 wrong.Container b)) ≡ Refused wrong.State → ⊥
 unfolding due answerOf answerNumber numberOf
-later-not-8 true t u b h = let n : _≡_ {A = ℕ} 4 8 = ap answerNumber h in absurd (omega arith)
-later-not-8 false true u b h = let n : _≡_ {A = ℕ} 5 8 = ap answerNumber h in absurd (omega arith)
-later-not-8 false false true b h = let n : _≡_ {A = ℕ} 1 8 = ap answerNumber h in absurd (omega arith)
-later-not-8 false false false true h = let n : _≡_ {A = ℕ} 3 8 = ap answerNumber h in absurd (omega arith)
-later-not-8 false false false false h = let n : _≡_ {A = ℕ} 0 8 = ap answerNumber h in absurd (omega arith)
+later-not-8 [] true b k h = let n : _≡_ {A = ℕ} 1 8 = ap answerNumber h in absurd (omega arith)
+later-not-8 [] false true k h = let n : _≡_ {A = ℕ} 3 8 = ap answerNumber h in absurd (omega arith)
+later-not-8 [] false false k h = let n : _≡_ {A = ℕ} 0 8 = ap answerNumber h in absurd (omega arith)
+later-not-8 (f ∷ l) u b k h = k h
 
 -- a state in range is not refused by 8
 pub not-8 : (s : Shape) (state : State) (c : SinkCall) → sinkOutOfRange s state ≡ false → sinkCalled s state c .received .answer ≡ Refused wrong.State → ⊥
 unfolding sinkFaults due
 not-8 s state c h e =
-    later-not-8 (labelRefused (c .settings .label)) (traceRefused (c .settings .trace)) (not (eqb (length (c .unit)) (unitLength s)))
+    later-not-8 (settingsFaults (c .settings)) (not (eqb (length (c .unit)) (unitLength s)))
     (not (eqb (length (c .held)) (s .size)) || not (eqb (length (c .done)) (s .size)))
-    (rw h at (sym (answer-is s state c) ∙ e))
+    (settings-not-8 (c .settings)) (rw h at (sym (answer-is s state c) ∙ e))

@@ -4,14 +4,12 @@ use Prim.Native.Nat.{ℕ}
 use Rattle.shape.specs.declared.Shape.{Shape}
 use Rattle.view.specs.View.{handedBack}
 use Rattle.settings.specs.declared.Settings.{Settings}
-use Rattle.settings.specs.declared.Flags.{Flags}
 use Rattle.sink.specs.Sink.{freshSink, ReceivedOutcome, sink}
 use Rattle.sink.specs.declared.State.{State}
 
 -- what a call is given beside the state
 pub record SinkCall : Type 0 where
-  pub expected : Settings
-  pub flags : Flags
+  pub settings : Settings
   pub unit : List ℕ
   pub held : List ℕ
   pub done : List ℕ
