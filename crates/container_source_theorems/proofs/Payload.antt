@@ -1,4 +1,4 @@
--- What is sent comes back: the payload of a container that a source sent, payloadHanded to the payload call. Assumes nothing.
+-- What is sent comes back: the payload of a container that a source sent, handed to the payload call. Assumes nothing.
 use mathlib.Core.Path.{_≡_, refl, sym, ap, _∙_}
 use mathlib.Core.Bool.{true, false}
 use mathlib.Core.List.{List}

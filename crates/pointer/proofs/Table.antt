@@ -1,4 +1,4 @@
--- The rows P1 to P12 of 01, "Pointer words and units on both sides", as one statement; the "run only" line; and words in a row, from the freshPointer state and others.
+-- The rows P1 to P12 of 01, "Pointer words and units on both sides", as one statement; the "run only" line; and words in a row, from the fresh state and others.
 -- Assumes nothing.
 use mathlib.Core.Path.{_≡_, refl}
 use mathlib.Core.List.{List, [], _∷_, map}
@@ -20,7 +20,7 @@ use Rattle.pointer.specs.declared.Pointer.{Pointer}
 
 -- ---- the table
 
--- a row: the offset, the word, what it is taken as, and the offset afterWords it
+-- a row: the offset, the word, what it is taken as, and the offset after it
 pub record Row : Type 0 where
   pub offset : ℕ
   pub word : ℕ
@@ -79,7 +79,7 @@ pub too-soon : takens (before (Normal 782)) 782 (0x69a4 ∷ 0x6800 ∷ 0x6800 �
 unfolding takens before found
 too-soon = refl
 
--- rule 3, from the freshPointer state; it does not start the wait, so that an adjustment may follow at once
+-- rule 3, from the fresh state; it does not start the wait, so that an adjustment may follow at once
 pub three-alike : takens freshPointer 782 (0x6800 ∷ 0x6800 ∷ 0x6800 ∷ 0x6aaa ∷ []) ≡ Nothing ∷ Nothing ∷ Resync 0 ∷ Increment 1 ∷ []
 unfolding freshPointer takens before found
 three-alike = refl

@@ -35,7 +35,7 @@ rowsAfter rows (Decrement v) = noRows
 rowsAfter rows Nothing = noRows
 rowsAfter rows Invalid = record { alarms = 0; news = 0; invalids = more (rows .invalids) 8 }
 
--- rule 1: "Three in a row lead to alarm from any state". Here and in the afterWord, `row` is the row with this word in it.
+-- rule 1: "Three in a row lead to alarm from any state". Here and in the next, `row` is the row with this word in it.
 unfoldable pub alarmWord : State → ℕ → State
 alarmWord state row = cond (leb 3 row) Alarm state
 
@@ -101,26 +101,26 @@ waitAfter wait state Invalid = more wait 3
 unfoldable pub takenIn : Pointer → ℕ → ℕ → Taken
 takenIn s top w = takenAs (s .state) (runAfter (s .run) top w .count) (s .wait) top w
 
--- s afterWords a word taken as t; `run` is the run with this word in it
+-- s after a word taken as t; `run` is the run with this word in it
 unfoldable pub pointerAfter : Pointer → Run → Taken → Pointer
 pointerAfter s run t =
     let rows = rowsAfter (s .rows) t in
     let state = stateAfter (s .state) rows t in
     record { state = state; rows = rows; run = run; wait = waitAfter (s .wait) state t }
 
--- THE STEP: how w is taken in s, and the pointer afterWords it
+-- THE STEP: how w is taken in s, and the pointer after it
 unfoldable pub pointerStep : Pointer → ℕ → ℕ → AfterWord
 pointerStep s top w =
     let t = takenIn s top w in
     record { taken = t; pointer = pointerAfter s (runAfter (s .run) top w) t }
 
--- ---- word afterWords word
+-- ---- word after word
 
--- the pointer afterWords the word w
+-- the pointer after the word w
 abbrev pub afterWord : Pointer → ℕ → ℕ → Pointer
 afterWord s top w = pointerStep s top w .pointer
 
--- the pointer afterWords the words ws
+-- the pointer after the words ws
 unfoldable pub afterWords : Pointer → ℕ → List ℕ → Pointer
 afterWords s top [] = s
 afterWords s top (w ∷ ws) = afterWords (afterWord s top w) top ws

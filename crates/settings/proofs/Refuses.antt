@@ -1,14 +1,14 @@
 -- The answer to a call, as far as its label and its trace go, by the tests that led to it; and each row has its case's number. Assumes nothing.
 use mathlib.Core.Path.{_≡_, refl, ap, _∙_}
 use mathlib.Core.Bool.{Bool, true, false}
-use mathlib.Core.List.{List, _++_}
+use mathlib.Core.List.{List, [], _++_}
 use Prim.Native.Nat.{ℕ}
 use native.Mathlib.Omega.{arith}
 use Rattle.refusals.specs.Refusals.{due, given, numberOf, answerNumber, says, answerOf}
 use Rattle.refusals.specs.declared.Answer.{Answer}
 use Rattle.refusals.specs.declared.Answer.the-variants.{Done, Refused}
 use Rattle.refusals.specs.declared.Refusal.the-variants.{Label, Trace, State}
-use Rattle.refusals.proofs.Wrong.{Numbered, numbered-row, numbered-last}
+use Rattle.refusals.proofs.Wrong.{due-none, due-false, Numbered, numbered-row, numbered-last}
 use Rattle.settings.specs.declared.Settings.{Settings}
 use Rattle.settings.specs.Settings.{labelRefused, traceRefused}
 use Rattle.settings.specs.Faults.{pathFaults, settingsFaults}
@@ -52,7 +52,16 @@ pub settings-not-8 : (e : Settings) → answerOf (settingsFaults e) ≡ Refused 
 unfolding settingsFaults pathFaults
 settings-not-8 e = path-not-8 (labelRefused (e .label)) (traceRefused (e .trace))
 
--- settings of a label and a trace that are not refused are good
-pub settings-good : (e : Settings) → labelRefused (e .label) ≡ false → traceRefused (e .trace) ≡ false → Done ≡ answerOf (settingsFaults e)
-unfolding settingsFaults pathFaults due answerOf
-settings-good e l t = rw (l, t) refl
+-- settings that no number refuses: neither their label nor their trace is
+pub fine-label : (e : Settings) → settingsFaults e ≡ [] → labelRefused (e .label) ≡ false
+unfolding settingsFaults pathFaults
+fine-label e h = due-none (labelRefused (e .label)) _ _ h .0
+
+pub fine-trace : (e : Settings) → settingsFaults e ≡ [] → traceRefused (e .trace) ≡ false
+unfolding settingsFaults pathFaults
+fine-trace e h = due-false (traceRefused (e .trace)) _ (due-none (labelRefused (e .label)) _ _ h .1)
+
+-- and settings of which neither is are such
+pub settings-fine : (e : Settings) → labelRefused (e .label) ≡ false → traceRefused (e .trace) ≡ false → settingsFaults e ≡ []
+unfolding settingsFaults pathFaults due
+settings-fine e l t = rw (l, t) refl

@@ -1,4 +1,4 @@
--- A run of any containers of the right length, unit pathAfter unit: the pointer locks to the source's offset and follows it, no call is refused, and from the fourth unit on
+-- A run of any containers of the right length, unit after unit: the pointer locks to the source's offset and follows it, no call is refused, and from the fourth unit on
 -- each unit hands back what the source says ended. Nothing is asked of what the containers hold. Assumes nothing.
 use mathlib.Core.Path.{_≡_, refl, sym, ap, _∙_}
 use mathlib.Core.Bool.{Bool, true, false, _&&_, true≢false}
@@ -34,7 +34,7 @@ pub record Runs (s : Shape) (r : Run) : Type 0 where
   pub ready : Ready s r (pathAt s r 0)
   pub spaced : Spaced five (r .ask)
 
--- how far it has come, n units pathAfter its begin
+-- how far it has come, n units after its begin
 pub record Along (s : Shape) (r : Run) (n : ℕ) (x : Path) : Type 0 where
   pub ready : Ready s r x
   -- the source's wait counts the plain units before
@@ -193,7 +193,7 @@ module _ (s : Shape) (r : Run) (u : Runs s r) where
               together = λ _. together-later later;
             }
 
-  -- ALONG THE RUN, pathAfter every unit
+  -- ALONG THE RUN, after every unit
   pub along : (n : ℕ) → Along s r n (pathAt s r n)
   unfolding pathAt
   along zero =

@@ -88,7 +88,7 @@ module _ (s : Shape) (r : Run) (u : Runs s r) where
         settled-is s (u .fit) r (u .set) x (r .ask n) (h .ready) (late s r u n x h)
         ∙ ap (λ (b : Bool). settledOf b (pathAfter s r x (r .ask n) .state .monitor) (r .settings)) (normal s (u .fit) r (u .set) x (r .ask n) (h .ready) (late s r u n x h) (m .was) (m .taken-is) (m .now))
 
-  -- in any units one pathAfter the other
+  -- in any units one after the other
   pub in-order-all : (units n : ℕ) → 3 ≤ n → handedFrom s r (pathAt s r) (receivedAt s r) n units ≡ boxes (r .box) (numberAt s r u n) (endedFrom (madeAt s r) n units)
   unfolding handedFrom endedFrom boxes
   in-order-all zero n w = refl

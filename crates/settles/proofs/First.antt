@@ -1,12 +1,14 @@
 -- A source that makes container 0 too with the settings of the run, such as a fresh one: that container is of the right length, and the source then stands at the next. So it
 -- settles like any other, and none of its calls is refused. Assumes nothing.
 use mathlib.Core.Path.{_≡_, refl, sym, ap, _∙_}
+use mathlib.Core.Bool.{true}
 use Prim.Native.Nat.{ℕ, zero, suc, _*_, _≤_}
 use lib.ListN.{length}
 use Rattle.shape.specs.Shape.{Fit}
 use Rattle.shape.specs.declared.Shape.{Shape}
 use Rattle.container_source.specs.declared.State.{State}
 use Rattle.container_source_theorems.specs.Run as sending
+use Rattle.overhead.specs.Labels.{fits}
 use Rattle.settles.specs.Demand.{Run, Making, Fine, Given, Spaced, Supplied, Good, Settles, most, logOf}
 use Rattle.settles.proofs.Sources.{made-low}
 use Rattle.settles.proofs.Along.{five}
@@ -23,7 +25,8 @@ later-is s m zero = refl
 later-is s m (suc k) = ap (λ (x : State). sending.containerSourceCalled s x (m .calls (suc k)) .sent .state) (later-is s m k)
 
 module _ (noneBefore : ℕ) (s : Shape) (m : Making) (r : Run) (f : Fit s) (i : InRange s m r) (fine : Fine s r)
-    (box-is : (k : ℕ) → r .box k ≡ sending.containerAt s (m .first) (m .calls) k) (given : (k : ℕ) → Given s (r .settings) (m .calls k)) (spaced : Spaced noneBefore (r .ask))
+    (box-is : (k : ℕ) → r .box k ≡ sending.containerAt s (m .first) (m .calls) k) (label : ℕ) (fitting : fits label (r .settings .label) ≡ true)
+    (given : (k : ℕ) → Given s label (r .settings) (m .calls k)) (spaced : Spaced noneBefore (r .ask))
   where
     first-supplied : Supplied s (later s m) r
     first-supplied k = box-is (suc k) ∙ ap (λ (x : State). sending.containerSourceCalled s x (m .calls (suc k)) .container) (sym (later-is s m k))
@@ -32,7 +35,9 @@ module _ (noneBefore : ℕ) (s : Shape) (m : Making) (r : Run) (f : Fit s) (i : 
     first-good =
         record {
           fine = fine;
-          under-way = ap length (box-is 0) ∙ made-full s f m (r .settings) (i .first-in) (fine .label-fine) (fine .trace-fine) given 0;
+          under-way = ap length (box-is 0) ∙ made-full s f m label (r .settings) (i .first-in) fitting (fine .settings-fine) given 0;
+          label = label;
+          label-fits = fitting;
           given = λ k. given (suc k);
           spaced = spaced;
         }
@@ -44,7 +49,7 @@ module _ (noneBefore : ℕ) (s : Shape) (m : Making) (r : Run) (f : Fit s) (i : 
         in
         let h = settles noneBefore s (later s m) r some f steps later-in first-supplied first-good in
         record {
-          made-done = made-done s f m (r .settings) (i .first-in) (fine .label-fine) (fine .trace-fine) given;
+          made-done = made-done s f m label (r .settings) (i .first-in) fitting (fine .settings-fine) given;
           sent-done = h .sent-done;
           fed-done = h .fed-done;
           few = h .few;

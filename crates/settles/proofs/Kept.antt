@@ -9,9 +9,10 @@ use lib.Dec.{eqb}
 use lib.ListN.{length}
 use borrow.Author.Tests.{eq-eqb}
 use Rattle.laws.proofs.Tests.{by-test}
-use Rattle.settings.specs.Settings.{labelRefused, traceRefused}
+use Rattle.settings.specs.Faults.{settingsFaults}
 use Rattle.refusals.specs.declared.Answer.the-variants.{Done}
-use Rattle.refusals.proofs.Wrong.{outcome-by}
+use Rattle.refusals.specs.Refusals.{answerOf}
+use Rattle.refusals.proofs.Wrong.{outcome-by, none-done}
 use Rattle.shape.specs.Shape.{Fit, unitLength}
 use Rattle.shape.specs.declared.Shape.{Shape}
 use Rattle.container_source.specs.Source as container-source
@@ -28,8 +29,8 @@ use Rattle.monitor.specs.Monitoring.{seenOf}
 use Rattle.monitor.specs.declared.Monitor.{Monitor}
 use Rattle.settings.specs.declared.Settings.{Settings}
 use Rattle.settles_monitor.specs.Near.{Whole}
-use Rattle.settles_monitor.proofs.Settles.{whole-step, whole-blank, whole-forgot}
-use Rattle.receiving.specs.Receiving.{UnitOutcome, forgot, cutIn, watched, bothSeen, receivedNormal, silence, beginIn}
+use Rattle.settles_monitor.proofs.Settles.{whole-step, whole-blank, whole-met}
+use Rattle.receiving.specs.Receiving.{UnitOutcome, monitorIn, cutIn, watched, bothSeen, receivedNormal, silence, beginIn}
 use Rattle.unit_end.specs.Settled.{totalOf}
 use Rattle.sink.specs.Sink.{freshSink, ReceivedOutcome, sinkOutOfRange, pointed, unitOutcome, told, refusing, sink}
 use Rattle.sink.specs.declared.State.{State}
@@ -54,7 +55,7 @@ leaving-whole : (s : Shape) (state : State) (a : AfterWord) (e : Settings) (unit
 unfolding unitOutcome receivedNormal silence
 leaving-whole s state a e unit held done h =
     by-test (λ (l : UnitOutcome). Whole (l .after .monitor)) (isNormal (a .pointer .state))
-    (λ _. both-whole s (cutIn s (a .taken) (offsetOf (a .pointer .state)) (state .held)) _ _ (forgot (a .taken) (state .monitor)) e (whole-forgot (a .taken) (state .monitor) h))
+    (λ _. both-whole s (cutIn s (a .taken) (offsetOf (a .pointer .state)) (state .held)) _ _ (monitorIn (a .taken) (state .monitor)) e (whole-met (a .taken) (state .monitor) h))
     (λ _. whole-blank 48)
 
 pub call-whole : (s : Shape) (state : State) (c : SinkCall) → Whole (state .monitor) → Whole (sinkCalled s state c .received .state .monitor)
@@ -96,13 +97,13 @@ reached-total s calls = calls-keep s freshSink calls (whole-blank 0) (omega arit
 
 -- ---- a call that nothing is wrong with
 
-pub call-done : (s : Shape) (state : State) (c : SinkCall) → sinkOutOfRange s state ≡ false → labelRefused (c .settings .label) ≡ false → traceRefused (c .settings .trace) ≡ false
+pub call-done : (s : Shape) (state : State) (c : SinkCall) → sinkOutOfRange s state ≡ false → settingsFaults (c .settings) ≡ []
     → length (c .unit) ≡ unitLength s → length (c .held) ≡ s .size → length (c .done) ≡ s .size → sinkCalled s state c .received .answer ≡ Done
-call-done s state c o l t u h d =
+call-done s state c o fine u h d =
     let both : (not (eqb (length (c .held)) (s .size)) || not (eqb (length (c .done)) (s .size))) ≡ false = simp (eq-eqb (length (c .held)) (s .size) h, eq-eqb (length (c .done)) (s .size) d) in
     answer-is s state c
     ∙ sym (nothing-wrong s state (c .settings) (length (c .unit)) (length (c .held)) (length (c .done))
-    (sinkOutOfRange s state) refl o (labelRefused (c .settings .label)) refl l (traceRefused (c .settings .trace)) refl t u both)
+    (sinkOutOfRange s state) refl o (answerOf (settingsFaults (c .settings))) refl (none-done (settingsFaults (c .settings)) fine) u both)
 
 -- it leaves both buffers as long as they were
 module _ (s : Shape) (f : Fit s) (state : State) (c : SinkCall) (d : sinkCalled s state c .received .answer ≡ Done) where

@@ -8,16 +8,17 @@ use native.Mathlib.Omega.{arith}
 use lib.Dec.{leb}
 use lib.ListN.{length, replicate}
 use borrow.Author.Tests.{leb-true, leb-false}
-use Rattle.shape.specs.Shape.{Fit, au4}
+use Rattle.shape.specs.Shape.{Fit, au4, tu3}
 use Rattle.shape.specs.declared.Shape.{Shape}
-use Rattle.shape.proofs.Offsets.{au4-fit}
-use Rattle.shape.proofs.Examples.{tu3, tu3-fit}
+use Rattle.shape.proofs.Offsets.{au4-fit, tu3-fit}
 use Rattle.container_source.specs.Source as container-source
+use Rattle.settings.proofs.Refuses.{fine-label, fine-trace}
 use Rattle.overhead.specs.Violations.{keptOf}
 use Rattle.monitor.specs.Seeing.{seenIn}
 use Rattle.settles_monitor.specs.Near.{Setting, Whole, enough}
 use Rattle.settles_monitor.proofs.Settles.{Near, near-none, near-settled, near-free, setting}
 use Rattle.settles_stream.specs.InOrder.{boxes, violationsAll, violationsTold}
+use Rattle.unit_end.specs.Settled.{noneStands}
 use Rattle.sink.specs.Sink as sink
 use Rattle.sink_theorems.proofs.Ranges.{reached-in-range}
 use Rattle.settles.specs.Demand.{Run, Path, Making, Reached, Supplied, Good, Settles, Demand, most, eight, Demand3, pathAt, sentAt, fedAt, receivedAt, logOf, unsettled}
@@ -34,14 +35,16 @@ use Rattle.settles.proofs.Every.{sent-all, fed-all, number-on, total-al
 
 -- How near it is: so many containers were watched since the one whose number is `since`, the next of which has in J1 the byte of the message that is due, and the parity kept
 -- is that of the last
-record Watching (s : Shape) (r : Run) (place since : ℕ) (x : Path) : Type 0 where
+record Watching (s : Shape) (r : Run) (label place since : ℕ) (x : Path) : Type 0 where
   many : ℕ
   number-is : since + many ≡ x .source .number
-  near : Near (r .settings) ((place + x .source .number) % 16) many (x .state .monitor)
+  near : Near label (r .settings) ((place + x .source .number) % 16) many (x .state .monitor)
   parity : (i : ℕ) → suc i ≡ x .source .number → 0 < many → x .state .monitor .parity ≡ keptOf (seenIn (s .columns) (r .box i) .parity)
 
-module _ (s : Shape) (r : Run) (u : Runs s r) (place : ℕ) (g : Setting (r .settings))
-    (like : (j : ℕ) → 0 < j → Sent (s .columns) (r .settings) (r .box) place j) (chain : (j : ℕ) → 0 < j → Chained (s .columns) (r .settings) (r .box) j) (steps : 64 * s .step ≤ s .size)
+-- Of the containers those below `end` are asked for, but for the one under way as the run begins: what is said is said of the units that end no others
+module _ (s : Shape) (r : Run) (u : Runs s r) (label place end : ℕ) (g : Setting label (r .settings))
+    (like : (j : ℕ) → 0 < j → j < end → Sent (s .columns) label (r .settings) (r .box) place j)
+    (chain : (j : ℕ) → 0 < j → suc j < end → Chained (s .columns) label (r .settings) (r .box) j) (steps : 64 * s .step ≤ s .size)
   where
     -- the container that is current as the third unit has passed, by which the sink is locked
     since : ℕ
@@ -54,99 +57,108 @@ module _ (s : Shape) (r : Run) (u : Runs s r) (place : ℕ) (g : Setting (r .set
         let few : 3 * s .step ≤ s .size = omega (arith, steps) in
         omega (arith, ends-enough s r u 0 3 few)
 
-    watching-on : (n : ℕ) → 3 ≤ n → Watching s r place since (pathAt s r n) → Watching s r place since (pathAt s r (suc n))
-    watching-on n w h =
+    watching-on : (n : ℕ) → 3 ≤ n → numberAt s r u (suc n) ≤ end → Watching s r label place since (pathAt s r n) → Watching s r label place since (pathAt s r (suc n))
+    watching-on n w o h =
         let x = pathAt s r n in
         let k = sentAt s r n .made .ended in
         record {
           many = h .many + k;
           number-is = omega (arith, h .number-is, number-on s r u n);
-          near = rw (number-on s r u n, monitor-all s r u n w) (near-all (s .columns) (r .settings) (r .box) place (x .source .number) (h .many) k (x .state .monitor) g (λ j l. like j (omega (arith, since-some, h .number-is))) (h .near));
-          parity = rw (number-on s r u n, monitor-all s r u n w) (parity-on (s .columns) (r .settings) (r .box) (x .source .number) (h .many) k (x .state .monitor) (h .parity));
+          near = rw (number-on s r u n, monitor-all s r u n w) (near-all (s .columns) label (r .settings) (r .box) place (x .source .number) (h .many) k (x .state .monitor) g (λ j l q. like j (omega (arith, since-some, h .number-is)) (omega (arith, number-on s r u n))) (h .near));
+          parity = rw (number-on s r u n, monitor-all s r u n w) (parity-on (s .columns) label (r .settings) (r .box) (x .source .number) (h .many) k (x .state .monitor) (h .parity));
         }
 
-    watching : (j : ℕ) → Watching s r place since (pathAt s r (3 + j))
+    watching : (j : ℕ) → numberAt s r u (3 + j) ≤ end → Watching s r label place since (pathAt s r (3 + j))
     unfolding since
-    watching zero =
+    watching zero o =
         record {
           many = 0;
           number-is = omega arith;
-          near = near-none (r .settings) ((place + numberAt s r u 3) % 16) (pathAt s r 3 .state .monitor) (along s r u 3 .ready .whole);
+          near = near-none label (r .settings) ((place + numberAt s r u 3) % 16) (pathAt s r 3 .state .monitor) (along s r u 3 .ready .whole);
           parity = λ i e p. absurd (omega arith);
         }
-    watching (suc j) = rw (add-suc 3 j) (watching-on (3 + j) (omega arith) (watching j))
+    watching (suc j) o =
+        let next = rw (add-suc 3 j) at o in
+        rw (add-suc 3 j) (watching-on (3 + j) (omega arith) next (watching j (omega (arith, next, number-on s r u (3 + j)))))
 
-    watching-at : (n : ℕ) → 3 ≤ n → Watching s r place since (pathAt s r n)
-    watching-at n w = let e : 3 + (n - 3) ≡ n = omega arith in subst (λ (k : ℕ). Watching s r place since (pathAt s r k)) e (watching (n - 3))
+    watching-at : (n : ℕ) → 3 ≤ n → numberAt s r u n ≤ end → Watching s r label place since (pathAt s r n)
+    watching-at n w o =
+        let e : 3 + (n - 3) ≡ n = omega arith in
+        subst (λ (k : ℕ). numberAt s r u k ≤ end → Watching s r label place since (pathAt s r k)) e (watching (n - 3)) o
 
     -- as the 66th unit has passed, and later, at least 62 were watched; as the 67th has, 63
-    many-at : (j n : ℕ) → j ≤ 64 → 3 + j ≤ n → (w : 3 ≤ n) → j ≤ watching-at n w .many + 1
+    many-at : (j n : ℕ) → j ≤ 64 → 3 + j ≤ n → (w : 3 ≤ n) (o : numberAt s r u n ≤ end) → j ≤ watching-at n w o .many + 1
     unfolding since
-    many-at j n a b w =
+    many-at j n a b w o =
         let few : j * s .step ≤ s .size = le-trans (mul-le-mul-right (s .step) a) steps in
         let e : 3 + j + (n - (3 + j)) ≡ n = omega arith in
         let up = rw e at (goes-up s r u (3 + j) (n - (3 + j))) in
-        omega (arith, ends-enough s r u 3 j few, up, watching-at n w .number-is)
+        omega (arith, ends-enough s r u 3 j few, up, watching-at n w o .number-is)
 
     -- ---- from the 67th unit on
 
-    module _ (n : ℕ) (w : most ≤ n) where
-      now : Watching s r place since (pathAt s r (suc n))
-      now = watching-at (suc n) (omega arith)
+    module _ (n : ℕ) (w : most ≤ n) (o : numberAt s r u (suc n) ≤ end) where
+      now : Watching s r label place since (pathAt s r (suc n))
+      now = watching-at (suc n) (omega arith) o
 
       all-watched : enough ≤ now .many
       unfolding now
-      all-watched = omega (arith, many-at 64 (suc n) (omega arith) (omega arith) (omega arith))
+      all-watched = omega (arith, many-at 64 (suc n) (omega arith) (omega arith) (omega arith) o)
 
       pub settled-then : fedAt s r n .received .settled ≡ true
       settled-then =
           settled-all s r u n (omega arith)
-          ∙ near-settled (r .settings) ((place + numberAt s r u (suc n)) % 16) (now .many) (pathAt s r (suc n) .state .monitor) (omega arith) all-watched (now .near)
+          ∙ near-settled label (r .settings) ((place + numberAt s r u (suc n)) % 16) (now .many) (pathAt s r (suc n) .state .monitor) (omega arith) all-watched (now .near) (g .fitting)
 
-      pub free-then : fedAt s r n .received .defects ≡ sink.noDefects
+      pub free-then : noneStands (fedAt s r n .received .defects) ≡ true
       unfolding pathAt
       free-then =
-          defects-is s (u .fit) r (u .set) (pathAt s r n) (r .ask n) (along s r u n .ready) (late s r u n (pathAt s r n) (along s r u n))
-          ∙ near-free (r .settings) ((place + numberAt s r u (suc n)) % 16) (now .many) (pathAt s r (suc n) .state .monitor) (omega arith) all-watched (now .near)
+          ap noneStands (defects-is s (u .fit) r (u .set) (pathAt s r n) (r .ask n) (along s r u n .ready) (late s r u n (pathAt s r n) (along s r u n)))
+          ∙ near-free label (r .settings) ((place + numberAt s r u (suc n)) % 16) (now .many) (pathAt s r (suc n) .state .monitor) (omega arith) all-watched (now .near)
+
+      -- before it
+      was : numberAt s r u n ≤ end
+      was = omega (arith, o, number-on s r u n)
 
       pub clean-then : violationsTold (fedAt s r n .received .ended) ≡ replicate (sentAt s r n .made .ended) 0
       clean-then =
           told-all s r u n (omega arith)
-          ∙ go (numberAt s r u n) (watching-at n (omega arith) .number-is) (watching-at n (omega arith) .parity)
+          ∙ go (numberAt s r u n) refl (watching-at n (omega arith) was .number-is) (watching-at n (omega arith) was .parity)
         where
-          some : 0 < watching-at n (omega arith) .many
-          some = omega (arith, many-at 63 n (omega arith) (omega arith) (omega arith))
+          some : 0 < watching-at n (omega arith) was .many
+          some = omega (arith, many-at 63 n (omega arith) (omega arith) (omega arith) was)
 
-          go : (i : ℕ) → since + watching-at n (omega arith) .many ≡ i
-              → ((j : ℕ) → suc j ≡ i → 0 < watching-at n (omega arith) .many → pathAt s r n .state .monitor .parity ≡ keptOf (seenIn (s .columns) (r .box j) .parity))
+          go : (i : ℕ) → i ≡ numberAt s r u n → since + watching-at n (omega arith) was .many ≡ i
+              → ((j : ℕ) → suc j ≡ i → 0 < watching-at n (omega arith) was .many → pathAt s r n .state .monitor .parity ≡ keptOf (seenIn (s .columns) (r .box j) .parity))
               → violationsAll (s .columns) (r .settings) (pathAt s r n .state .monitor) (boxes (r .box) i (sentAt s r n .made .ended)) ≡ replicate (sentAt s r n .made .ended) 0
-          go zero e h = absurd (omega (arith, some))
-          go (suc i) e h =
-              none-violated-all (s .columns) (r .settings) (r .box) i (sentAt s r n .made .ended) (pathAt s r n .state .monitor) (λ j l. chain j (omega (arith, since-some, some))) (h i refl some)
+          go zero i-is e h = absurd (omega (arith, some))
+          go (suc i) i-is e h =
+              none-violated-all (s .columns) label (r .settings) (r .box) i (sentAt s r n .made .ended) (pathAt s r n .state .monitor) (λ j l q. chain j (omega (arith, since-some, some)) (omega (arith, o, number-on s r u n, i-is))) (h i refl some)
 
-    -- ---- the count of unsettled units
+-- ---- the count of unsettled units
 
-    at-most : (n : ℕ) → unsettled (receivedAt s r) n ≤ n
-    unfolding unsettled
-    at-most zero = omega arith
-    at-most (suc n) = omega (arith, at-most n, one (fedAt s r n .received .settled))
-      where
-        one : (b : Bool) → cond b 0 1 ≤ 1
-        one true = omega arith
-        one false = omega arith
+module _ (s : Shape) (r : Run) (settled : (n : ℕ) → most ≤ n → fedAt s r n .received .settled ≡ true) where
+  at-most : (n : ℕ) → unsettled (receivedAt s r) n ≤ n
+  unfolding unsettled
+  at-most zero = omega arith
+  at-most (suc n) = omega (arith, at-most n, one (fedAt s r n .received .settled))
+    where
+      one : (b : Bool) → cond b 0 1 ≤ 1
+      one true = omega arith
+      one false = omega arith
 
-    no-more : (j : ℕ) → unsettled (receivedAt s r) (most + j) ≤ most
-    unfolding unsettled
-    no-more zero = at-most most
-    no-more (suc j) =
-        rw (add-suc most j, settled-then (most + j) (omega arith)) (omega (arith, no-more j))
+  no-more : (j : ℕ) → unsettled (receivedAt s r) (most + j) ≤ most
+  unfolding unsettled
+  no-more zero = at-most most
+  no-more (suc j) =
+      rw (add-suc most j, settled (most + j) (omega arith)) (omega (arith, no-more j))
 
-    pub few-all : (n : ℕ) → unsettled (receivedAt s r) n ≤ most
-    few-all n = go (leb n most) refl
-      where
-        go : (b : Bool) → leb n most ≡ b → unsettled (receivedAt s r) n ≤ most
-        go true q = omega (arith, at-most n, leb-true n most q)
-        go false q = let e : most + (n - most) ≡ n = omega (arith, leb-false n most q) in rw e at (no-more (n - most))
+  pub few-all : (n : ℕ) → unsettled (receivedAt s r) n ≤ most
+  few-all n = go (leb n most) refl
+    where
+      go : (b : Bool) → leb n most ≡ b → unsettled (receivedAt s r) n ≤ most
+      go true q = omega (arith, at-most n, leb-true n most q)
+      go false q = let e : most + (n - most) ≡ n = omega (arith, leb-false n most q) in rw e at (no-more (n - most))
 
 -- ---- from every state whose numbers are in range
 
@@ -162,12 +174,11 @@ pub settles : (noneBefore : ℕ) (s : Shape) (m : Making) (r : Run) → five ≤
 unfolding pathAt
 settles noneBefore s m r some f steps i box-is g =
     let place = m .first .place + 15 in
-    let label-fine = g .fine .label-fine in
-    let trace-fine = g .fine .trace-fine in
-    let made = made-done s f m (r .settings) (i .first-in) label-fine trace-fine (g .given) in
-    let full = box-full s f m (r .settings) (i .first-in) label-fine trace-fine (g .given) (r .box) box-is (g .under-way) in
-    let like = box-like s f m (r .settings) (i .first-in) label-fine trace-fine (g .given) (r .box) box-is in
-    let chain = box-chained s f m (r .settings) (i .first-in) label-fine trace-fine (g .given) (r .box) box-is in
+    let fine = g .fine .settings-fine in
+    let made = made-done s f m (g .label) (r .settings) (i .first-in) (g .label-fits) fine (g .given) in
+    let full = box-full s f m (g .label) (r .settings) (i .first-in) (g .label-fits) fine (g .given) (r .box) box-is (g .under-way) in
+    let like = box-like s f m (g .label) (r .settings) (i .first-in) (g .label-fits) fine (g .given) (r .box) box-is in
+    let chain = box-chained s f m (g .label) (r .settings) (i .first-in) (g .label-fits) fine (g .given) (r .box) box-is in
     let ready : Ready s r (pathAt s r 0) =
     record {
       source-fine = record { offset-low = i .source-in .offset-low; wait-low = i .source-in .wait-low; full = full; unit-is = g .fine .unit-is };
@@ -178,20 +189,22 @@ settles noneBefore s m r some f steps i box-is g =
       done-is = g .fine .done-is;
     }
     in
-    let set : Settable r = record { label-fine = label-fine; trace-fine = trace-fine } in
-    let u : Runs s r = record { fit = f; set = set; ready = ready; spaced = record { quiet = λ n l. g .spaced .quiet n (omega arith); apart = g .spaced .apart } } in
-    let e : Setting (r .settings) = setting (r .settings) label-fine trace-fine (g .fine .trace-is) in
+    let u : Runs s r = record { fit = f; set = fine; ready = ready; spaced = record { quiet = λ n l. g .spaced .quiet n (omega arith); apart = g .spaced .apart } } in
+    let e : Setting (g .label) (r .settings) = setting (g .label) (r .settings) (g .label-fits) (fine-label (r .settings) fine) (fine-trace (r .settings) fine) (g .fine .trace-is) in
+    let settled : (n : ℕ) → most ≤ n → fedAt s r n .received .settled ≡ true =
+    λ n w. settled-then s r u (g .label) place (numberAt s r u (suc n)) e (λ j l _. like j l) (λ j l _. chain j l) steps n w (omega arith)
+    in
     record {
       made-done = made;
       sent-done = sent-all s r u;
       fed-done = fed-all s r u;
-      few = few-all s r u place e like chain steps;
+      few = few-all s r settled;
       total-is = total-all s r u;
       back = λ n w. handed-all s r u n (omega arith);
       in-order = λ n units w. in-order-all s r u units n (omega arith);
-      no-violations = clean-then s r u place e like chain steps;
-      settled = settled-then s r u place e like chain steps;
-      no-defect = free-then s r u place e like chain steps;
+      no-violations = λ n w. clean-then s r u (g .label) place (numberAt s r u (suc n)) e (λ j l _. like j l) (λ j l _. chain j l) steps n w (omega arith);
+      settled = settled;
+      no-defect = λ n w. free-then s r u (g .label) place (numberAt s r u (suc n)) e (λ j l _. like j l) (λ j l _. chain j l) steps n w (omega arith);
     }
 
 -- ---- and so from every state that calls can reach

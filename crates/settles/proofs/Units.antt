@@ -1,11 +1,11 @@
 -- One unit of a run, of any containers of the right length: neither call is refused, and what it leaves at both ends. Assumes nothing.
 use mathlib.Core.Path.{_≡_, sym, ap, ap₂, _∙_}
 use mathlib.Core.Bool.{true, false, _&&_}
-use mathlib.Core.List.{List}
+use mathlib.Core.List.{List, []}
 use Prim.Native.Nat.{ℕ, _+_, _*_, _≤_}
 use lib.Dec.{ltb}
 use lib.ListN.{length, take}
-use Rattle.settings.specs.Settings.{labelRefused, traceRefused}
+use Rattle.settings.specs.Faults.{settingsFaults}
 use Rattle.refusals.specs.declared.Answer.the-variants.{Done}
 use Rattle.shape.specs.Shape.{Fit, placeOf, heldCount, offsetAfter, runFrom, endedBy}
 use Rattle.shape.specs.declared.Shape.{Shape}
@@ -30,7 +30,7 @@ use Rattle.settles_monitor.specs.Near.{Whole}
 use Rattle.settles_stream.specs.InOrder.{boxes, watchedAll, violationsAll, violationsTold}
 use Rattle.settles_stream.proofs.Seen.{seen-all, told-all}
 use Rattle.settles_stream.proofs.Together.{goes-ended, goes-held, restart-held}
-use Rattle.receiving.specs.Receiving.{UnitOutcome, forgot, fromIn, beginIn, cutIn, receivedNormal}
+use Rattle.receiving.specs.Receiving.{UnitOutcome, monitorIn, fromIn, beginIn, cutIn, receivedNormal}
 use Rattle.unit_end.specs.Actions.{defectsOf}
 use Rattle.unit_end.specs.Settled.{settledOf, totalOf}
 use Rattle.sink.specs.Sink as sink
@@ -52,9 +52,8 @@ pub record Ready (s : Shape) (r : Run) (x : Path) : Type 0 where
   pub done-is : length (x .done) ≡ s .size
 
 -- settings that no number refuses
-pub record Settable (r : Run) : Type 0 where
-  pub label-fine : labelRefused (r .settings .label) ≡ false
-  pub trace-fine : traceRefused (r .settings .trace) ≡ false
+abbrev pub Settable : Run → Type 0
+Settable r = settingsFaults (r .settings) ≡ []
 
 module _ (s : Shape) (f : Fit s) (r : Run) (set : Settable r) (x : Path) (a : Adjustment) (h : Ready s r x) (late : (adjusts a && ltb (x .source .state .wait) 3) ≡ false) where
   abbrev v : ℕ
@@ -76,7 +75,7 @@ module _ (s : Shape) (f : Fit s) (r : Run) (set : Settable r) (x : Path) (a : Ad
 
   pub fed-done : fed s r x a .received .answer ≡ Done
   fed-done =
-      call-done s (x .state) (feeding s r x a) (h .state-in) (set .label-fine) (set .trace-fine)
+      call-done s (x .state) (feeding s r x a) (h .state-in) set
       (ap length unit-is ∙ spaced.unit-long s f (r .box) (x .source) a (h .source-fine)) (h .held-is) (h .done-is)
 
   -- ---- both ends can be called again
@@ -99,7 +98,7 @@ module _ (s : Shape) (f : Fit s) (r : Run) (set : Settable r) (x : Path) (a : Ad
 
   -- ---- what is told at the unit's end
 
-  -- how the word is taken, and the pointer pathAfter it
+  -- how the word is taken, and the pointer after it
   abbrev t : AfterWord
   t = pointerStep (x .state .pointer) (s .top) (wordSent a v)
 
@@ -158,17 +157,17 @@ module _ (s : Shape) (f : Fit s) (r : Run) (set : Settable r) (x : Path) (a : Ad
     held-after = ap (λ (o : sink.ReceivedOutcome). o .held) fed-is ∙ ap (λ (y : UnitOutcome). y .held) left-is
 
     -- the monitor has watched what ended, in order
-    pub monitor-after : pathAfter s r x a .state .monitor ≡ watchedAll (s .columns) (r .settings) (forgot (t .taken) (x .state .monitor)) (endedOf s k unit (x .held))
+    pub monitor-after : pathAfter s r x a .state .monitor ≡ watchedAll (s .columns) (r .settings) (monitorIn (t .taken) (x .state .monitor)) (endedOf s k unit (x .held))
     unfolding receivedNormal endedOf
     monitor-after =
-        monitor-left ∙ ap (λ (y : UnitOutcome). y .after .monitor) left-is ∙ seen-all s k (completedOf s k unit (x .held)) (insidePart s k unit) (forgot (t .taken) (x .state .monitor)) (r .settings)
+        monitor-left ∙ ap (λ (y : UnitOutcome). y .after .monitor) left-is ∙ seen-all s k (completedOf s k unit (x .held)) (insidePart s k unit) (monitorIn (t .taken) (x .state .monitor)) (r .settings)
 
-    pub told-after : violationsTold (fed s r x a .received .ended) ≡ violationsAll (s .columns) (r .settings) (forgot (t .taken) (x .state .monitor)) (endedOf s k unit (x .held))
+    pub told-after : violationsTold (fed s r x a .received .ended) ≡ violationsAll (s .columns) (r .settings) (monitorIn (t .taken) (x .state .monitor)) (endedOf s k unit (x .held))
     unfolding told receivedNormal endedOf
     told-after =
         ap (λ (o : sink.ReceivedOutcome). violationsTold (o .received .ended)) fed-is
         ∙ ap (λ (y : UnitOutcome). violationsTold (y .after .ended)) left-is
-        ∙ told-all s k (completedOf s k unit (x .held)) (insidePart s k unit) (forgot (t .taken) (x .state .monitor)) (r .settings)
+        ∙ told-all s k (completedOf s k unit (x .held)) (insidePart s k unit) (monitorIn (t .taken) (x .state .monitor)) (r .settings)
 
     pub handed-after : reach.handed s (feeding s r x a) (fed s r x a) ≡ endedOf s k unit (x .held)
     handed-after =
@@ -190,9 +189,8 @@ module _ (s : Shape) (f : Fit s) (r : Run) (set : Settable r) (x : Path) (a : Ad
     unfolding beginIn fromIn
     cut-is = rw (taken-is, meant-goes (s .top) a v, meant-adjusts (s .top) a v, held-count)
 
-    forgot-none : forgot (t .taken) (x .state .monitor) ≡ x .state .monitor
-    unfolding forgot
-    forgot-none = rw (taken-is, meant-goes (s .top) a v)
+    met-same : monitorIn (t .taken) (x .state .monitor) ≡ x .state .monitor
+    met-same = rw (taken-is, meant-goes (s .top) a v)
 
     -- whatever was held, what is held then is what was sent of the current container
     pub held-goes : take (heldCount s (offsetAfter (s .top) a v)) (pathAfter s r x a .held) ≡ take (heldCount s (offsetAfter (s .top) a v)) (r .box (i + endedBy a v))
@@ -211,10 +209,10 @@ module _ (s : Shape) (f : Fit s) (r : Run) (set : Settable r) (x : Path) (a : Ad
       handed-goes = handed-after normal ∙ ended-is
 
       pub monitor-goes : pathAfter s r x a .state .monitor ≡ watchedAll (s .columns) (r .settings) (x .state .monitor) (boxes (r .box) i (endedBy a v))
-      monitor-goes = monitor-after normal ∙ ap₂ (λ (m : Monitor) (cs : List (List ℕ)). watchedAll (s .columns) (r .settings) m cs) forgot-none ended-is
+      monitor-goes = monitor-after normal ∙ ap₂ (λ (m : Monitor) (cs : List (List ℕ)). watchedAll (s .columns) (r .settings) m cs) met-same ended-is
 
       pub told-goes : violationsTold (fed s r x a .received .ended) ≡ violationsAll (s .columns) (r .settings) (x .state .monitor) (boxes (r .box) i (endedBy a v))
-      told-goes = told-after normal ∙ ap₂ (λ (m : Monitor) (cs : List (List ℕ)). violationsAll (s .columns) (r .settings) m cs) forgot-none ended-is
+      told-goes = told-after normal ∙ ap₂ (λ (m : Monitor) (cs : List (List ℕ)). violationsAll (s .columns) (r .settings) m cs) met-same ended-is
 
 -- ---- a unit with no adjustment, taken by rule 3 at the source's offset
 

@@ -4,19 +4,21 @@
 --   units, and at least three plain units between adjustments later. At most 66 units of that run end unsettled, and the card's own unsettled total rises by exactly their
 --   number, up to its cap. From the 67th unit on, each container that ends is handed back as sent, byte for byte, in order, none lost or doubled, with zero parity violations
 --   and no defect."
--- Units and containers are numbered from 0: unit n comes pathAfter n others. A row without end stands for its beginnings, so a run is of every length.
+-- Units and containers are numbered from 0: unit n comes after n others. A row without end stands for its beginnings, so a run is of every length.
 use mathlib.Core.Path.{_≡_}
 use Prim.Native.Nat.{ℕ, zero, suc, _+_, _≤_, _<_, min}
 use mathlib.Core.Bool.{true, false, cond}
 use mathlib.Core.List.{List, [], _∷_, _++_}
 use lib.ListN.{length, replicate}
-use Rattle.settings.specs.Settings.{labelRefused, traceRefused}
+use Rattle.settings.specs.Faults.{settingsFaults}
 use Rattle.refusals.specs.declared.Answer.the-variants.{Done}
 use Rattle.shape.specs.Shape.{unitLength, au4}
 use Rattle.shape.specs.declared.Shape.{Shape}
 use Rattle.shape.specs.declared.Adjustment.{Adjustment}
 use Rattle.shape.specs.declared.Adjustment.the-variants.{Nothing}
 use Rattle.container.specs.Container.{payloadSize}
+use Rattle.overhead.specs.Labels.{fits}
+use Rattle.unit_end.specs.Settled.{noneStands}
 use Rattle.container_source.specs.Source as container-source
 use Rattle.container_source.specs.declared.State as container-source-state
 use Rattle.container_source.specs.declared.Sent.{Sent}
@@ -27,7 +29,6 @@ use Rattle.unit_source.specs.declared.Made.{Made}
 use Rattle.unit_source_theorems.specs.Stream as stream
 use Rattle.settles_stream.specs.InOrder.{boxes, violationsTold}
 use Rattle.settings.specs.declared.Settings.{Settings}
-use Rattle.settings.specs.declared.Flags.{Flags}
 use Rattle.sink.specs.Sink as sink
 use Rattle.sink.specs.declared.State as sink-state
 use Rattle.sink.specs.declared.Received.{Received}
@@ -44,8 +45,7 @@ pub record Making : Type 0 where
 pub record Run : Type 0 where
   pub box : ℕ → List ℕ
   pub ask : ℕ → Adjustment
-  pub expected : Settings
-  pub flags : Flags
+  pub settings : Settings
   pub source : unit-source-state.State
   pub state : sink-state.State
   pub unit : List ℕ
@@ -168,9 +168,9 @@ pub record Reached (s : Shape) (m : Making) (r : Run) : Type 0 where
   pub many : ℕ
   pub first-is : m .first ≡ sending.stateAt s container-source.freshContainerSource made many
 
--- "that sends the label and trace expected and no remote defect": any payload, any other overhead, any violations that can be returned
-pub record Given (s : Shape) (e : Settings) (c : sending.ContainerSourceCall) : Type 0 where
-  pub label-is : c .given .label ≡ e .label
+-- "that sends the label and trace expected and no remote defect": this label, any payload, any other overhead, any violations that can be returned
+pub record Given (s : Shape) (label : ℕ) (e : Settings) (c : sending.ContainerSourceCall) : Type 0 where
+  pub label-is : c .given .label ≡ label
   pub trace-is : c .trace ≡ e .trace
   pub no-remote : c .given .remote ≡ false
   pub violations-low : c .given .violations ≤ 8
@@ -184,14 +184,13 @@ pub record Spaced (noneBefore : ℕ) (ask : ℕ → Adjustment) : Type 0 where
 
 -- "settings and buffer lengths that no number refuses"; a trace has 15 characters by its type
 pub record Fine (s : Shape) (r : Run) : Type 0 where
-  pub label-fine : labelRefused (r .settings .label) ≡ false
-  pub trace-fine : traceRefused (r .settings .trace) ≡ false
+  pub settings-fine : settingsFaults (r .settings) ≡ []
   pub trace-is : length (r .settings .trace) ≡ 15
   pub unit-is : length (r .unit) ≡ unitLength s
   pub held-is : length (r .held) ≡ s .size
   pub done-is : length (r .done) ≡ s .size
 
--- "one source, given its containers in order": each pathAfter container 0 is the one that the container source's next call leaves
+-- "one source, given its containers in order": each after container 0 is the one that the container source's next call leaves
 abbrev pub Supplied : Shape → Making → Run → Type 0
 Supplied s m r = (k : ℕ) → r .box (suc k) ≡ sending.containerAt s (m .first) (m .calls) k
 
@@ -200,7 +199,10 @@ pub record Good (noneBefore : ℕ) (s : Shape) (m : Making) (r : Run) : Type 0 w
   pub fine : Fine s r
   -- container 0 is under way as the run begins: it was made before, and its bytes may be any, of another label or trace too
   pub under-way : length (r .box 0) ≡ s .size
-  pub given : (k : ℕ) → Given s (r .settings) (m .calls k)
+  -- the label is one to expect, the same one throughout
+  pub label : ℕ
+  pub label-fits : fits label (r .settings .label) ≡ true
+  pub given : (k : ℕ) → Given s label (r .settings) (m .calls k)
   pub spaced : Spaced noneBefore (r .ask)
 
 -- ---- what then holds
@@ -217,13 +219,13 @@ pub record Settles (within : ℕ) (s : Shape) (r : Run) (g : Log) : Type 0 where
   pub total-is : (n : ℕ) → g .path n .state .total ≡ min (r .state .total + unsettled (g .received) n) 65535
   -- "From the 67th unit on, each container that ends is handed back as sent, byte for byte": those that the source says ended in the unit
   pub back : (n : ℕ) → within ≤ n → handedAt s r (g .path) (g .received) n ≡ boxes (r .box) (g .path n .source .number) (g .made n .ended)
-  -- "in order, none lost or doubled": and so in any units one pathAfter the other
+  -- "in order, none lost or doubled": and so in any units one after the other
   pub in-order : (n units : ℕ) → within ≤ n → handedFrom s r (g .path) (g .received) n units ≡ boxes (r .box) (g .path n .source .number) (endedFrom (g .made) n units)
   -- "with zero parity violations": one 0 for each
   pub no-violations : (n : ℕ) → within ≤ n → violationsTold (g .received n .ended) ≡ replicate (g .made n .ended) 0
-  -- "and no defect" at the end of the unit, which is settled
+  -- "and no defect", none of 01's four, at the end of the unit, which is settled
   pub settled : (n : ℕ) → within ≤ n → g .received n .settled ≡ true
-  pub no-defect : (n : ℕ) → within ≤ n → g .received n .defects ≡ sink.noDefects
+  pub no-defect : (n : ℕ) → within ≤ n → noneStands (g .received n .defects) ≡ true
 
 -- of a shape: every run of a good signal, from any state that calls can reach
 abbrev pub Demand : ℕ → ℕ → Shape → Type 0

@@ -7,42 +7,38 @@ use lib.Dec.{eqb, leb}
 use borrow.Author.Tests.{eqb-true}
 use Rattle.laws.proofs.Tests.{by-test}
 use Rattle.counts.specs.Counts.{runOn}
-use Rattle.overhead.specs.declared.Label.{Label}
+use Rattle.overhead.specs.declared.Accepted.{Accepted}
 use Rattle.overhead.specs.declared.Defect.{Defect}
-use Rattle.overhead.specs.Labels.{plmOf, labelOf}
+use Rattle.overhead.specs.Accepted.{acceptedOf}
 use Rattle.overhead.specs.Defects.{defectOf}
-use Rattle.settles_monitor.proofs.Labels.{Accepted, fits-own, near-accepted}
+use Rattle.settles_monitor.proofs.Labels.{Holds, near-holds}
 use Rattle.settles_monitor.proofs.Labels as labels
 use Rattle.settles_monitor.proofs.Defects as defects
 
 -- ---- the label
 
--- dPLM, renewed by a container that changes nothing else
-renewed : (e : ℕ) (l : Label) → Accepted e l → plmOf (l .known) (l .accepted) e ≡ false
-renewed e l a = rw (a .known, a .accepted, fits-own e)
-
--- a container with e
-pub label-again : (e : ℕ) (l : Label) → Accepted e l → Accepted e (labelOf l e e)
-unfolding labelOf
-label-again e l a =
-    by-test (Accepted e) (leb 5 (runOn (eqb e (l .last)) (l .run) 5))
-    (λ _. record { known = refl; accepted = refl; plm = rw (fits-own e) })
-    (λ _. record { known = a .known; accepted = a .accepted; plm = renewed e l a })
+-- a container with the label that is accepted
+pub label-again : (v : ℕ) (a : Accepted) → Holds v a → Holds v (acceptedOf a v)
+unfolding acceptedOf
+label-again v a h =
+    by-test (Holds v) (leb 5 (runOn (eqb v (a .last)) (a .run) 5))
+    (λ _. record { known = refl; value = refl })
+    (λ _. record { known = h .known; value = h .value })
 
 -- one with another label: its run is 1
-label-other : (e c2 : ℕ) (l : Label) → eqb c2 (l .last) ≡ false → Accepted e l → Accepted e (labelOf l c2 e)
-unfolding labelOf runOn
-label-other e c2 l h a = rw h (record { known = a .known; accepted = a .accepted; plm = renewed e l a })
+label-other : (v c2 : ℕ) (a : Accepted) → eqb c2 (a .last) ≡ false → Holds v a → Holds v (acceptedOf a c2)
+unfolding acceptedOf runOn
+label-other v c2 a q h = rw q (record { known = h .known; value = h .value })
 
 -- one with either
-pub label-hit : (e c2 k : ℕ) (l : Label) → 5 ≤ k → labels.Near e k l → Accepted e (labelOf l c2 e)
-label-hit e c2 k l h n = go (eqb c2 (l .last)) refl
+pub label-hit : (v c2 k : ℕ) (a : Accepted) → 5 ≤ k → labels.Near v k a → Holds v (acceptedOf a c2)
+label-hit v c2 k a h n = go (eqb c2 (a .last)) refl
   where
-    go : (q : Bool) → eqb c2 (l .last) ≡ q → Accepted e (labelOf l c2 e)
+    go : (q : Bool) → eqb c2 (a .last) ≡ q → Holds v (acceptedOf a c2)
     go true q =
-        let c : c2 ≡ e = eqb-true c2 (l .last) q ∙ n .last (omega arith) in
-        rw c (label-again e l (near-accepted e k l h n))
-    go false q = label-other e c2 l q (near-accepted e k l h n)
+        let c : c2 ≡ v = eqb-true c2 (a .last) q ∙ n .last (omega arith) in
+        rw c (label-again v a (near-holds v k a h n))
+    go false q = label-other v c2 a q (near-holds v k a h n)
 
 -- ---- a defect
 

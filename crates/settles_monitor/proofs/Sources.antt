@@ -23,12 +23,12 @@ no-remote v = ne-eqb ((v * 16 + 0) / 8 % 2) 1 (λ e. absurd (omega arith))
 
 -- one call that is done, of a shape that fits
 module _ (s : Shape) (f : Fit s) (state : State) (c : ContainerSourceCall) (done : containerSourceCalled s state c .sent .answer ≡ Done) where
-  -- with the settings expected and no remote defect
+  -- with one label, the trace expected and no remote defect
   pub sent-like :
-      (e : Settings) → c .given .label ≡ e .label → c .trace ≡ e .trace → c .given .remote ≡ false
-      → Like e (state .place) (seenIn (s .columns) (containerSourceCalled s state c .container))
+      (sent : ℕ) (e : Settings) → c .given .label ≡ sent → c .trace ≡ e .trace → c .given .remote ≡ false
+      → Like sent e (state .place) (seenIn (s .columns) (containerSourceCalled s state c .container))
   unfolding seenIn overheadOf j1Of
-  sent-like e l t r =
+  sent-like sent e l t r =
       rw (overhead-sent s state c done f)
       (record { label = l; remote = rw r (no-remote (c .given .violations)); byte = rw t })
 

@@ -5,6 +5,7 @@ use Prim.Native.Nat.{ℕ}
 use mathlib.Core.Bool.{true, false}
 use lib.ListN.{length, getD}
 use Rattle.trace_message.specs.Message.{message, topBitsClear}
+use Rattle.overhead.specs.Labels.{fits}
 use Rattle.overhead.specs.Defects.{remoteOf}
 use Rattle.monitor.specs.declared.Overhead.{Overhead}
 use Rattle.settings.specs.declared.Settings.{Settings}
@@ -14,18 +15,19 @@ use Rattle.monitor.specs.declared.Monitor.{Monitor}
 abbrev pub enough : ℕ
 enough = 63
 
--- settings that no number refuses, as the monitor needs them: a label other than 00, and 15 characters with top bit 0
-pub record Setting (e : Settings) : Type 0 where
-  pub label : e .label ≡ 0 → ⊥
+-- what is sent and what is expected, as the monitor needs them: one label throughout, which is not 00 and fits the one expected; 15 characters with top bit 0
+pub record Setting (sent : ℕ) (e : Settings) : Type 0 where
+  pub label : sent ≡ 0 → ⊥
+  pub fitting : fits sent (e .label) ≡ true
   pub size : length (e .trace) ≡ 15
   pub low : topBitsClear (e .trace) ≡ true
 
--- a container with the label expected, no remote defect, and the byte at place i of the message in J1
-pub record Like (e : Settings) (i : ℕ) (c : Overhead) : Type 0 where
-  pub label : c .c2 ≡ e .label
+-- a container with the label that is sent, no remote defect, and the byte at place i of the message expected in J1
+pub record Like (sent : ℕ) (e : Settings) (i : ℕ) (c : Overhead) : Type 0 where
+  pub label : c .c2 ≡ sent
   pub remote : remoteOf (c .g1) ≡ false
   pub byte : c .j1 ≡ getD (message (e .trace)) i 0
 
 -- the message being gathered has its 15 places, as every monitor of the code has by its type
 abbrev pub Whole : Monitor → Type 0
-Whole m = length (m .trace .gathered .chars) ≡ 15
+Whole m = length (m .watch .trace .gathered .chars) ≡ 15

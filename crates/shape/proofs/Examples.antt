@@ -1,19 +1,10 @@
--- Worked examples, computed by the check: the other shape of this form, and the units about offset 0 of AU-4. Assumes nothing.
+-- Worked examples, computed by the check: the units about offset 0 of AU-4. Assumes nothing.
 use mathlib.Core.Path.{_≡_, refl}
 use mathlib.Core.List.{List, [], _∷_, map}
 use Prim.Native.Nat.{ℕ}
-use native.Mathlib.Omega.{arith}
-use Rattle.shape.specs.Shape.{au4, Fit, heldCount, upOf, downOf, offsetAfter, runFrom, endedBy}
-use Rattle.shape.specs.declared.Shape.{Shape}
+use Rattle.shape.specs.Shape.{au4, heldCount, upOf, downOf, offsetAfter, runFrom, endedBy}
 use Rattle.shape.specs.declared.Adjustment.{Adjustment}
 use Rattle.shape.specs.declared.Adjustment.the-variants.{Nothing, Increment, Decrement}
-
--- TU-3 with its VC-3: nine rows of 85 bytes, values 0 to 764 that count single bytes
-abbrev pub tu3 : Shape
-tu3 = record { step = 1; size = 765; top = 764; columns = 85 }
-
-pub tu3-fit : Fit tu3
-tu3-fit = record { some = omega arith; fills = refl; nine = refl; two = omega arith; ten = omega arith; low = omega arith }
 
 -- a unit: what it does to the pointer, and the offset before it
 pub record Before : Type 0 where

@@ -6,13 +6,16 @@ use native.Mathlib.Omega.{arith}
 use lib.Dec.{eqb, ltb}
 use borrow.Author.Tests.{ltb-true, ne-eqb}
 use Rattle.laws.proofs.Tests.{by-test}
-use Rattle.shape.specs.Shape.{au4, Fit, placeOf, heldCount, upOf, downOf, offsetAfter, runFrom}
+use Rattle.shape.specs.Shape.{au4, tu3, Fit, placeOf, heldCount, upOf, downOf, offsetAfter, runFrom}
 use Rattle.shape.specs.declared.Shape.{Shape}
 use Rattle.shape.specs.declared.Adjustment.{Adjustment}
 use Rattle.shape.specs.declared.Adjustment.the-variants.{Nothing, Increment, Decrement}
 
 pub au4-fit : Fit au4
 au4-fit = record { some = omega arith; fills = refl; nine = refl; two = omega arith; ten = omega arith; low = omega arith }
+
+pub tu3-fit : Fit tu3
+tu3-fit = record { some = omega arith; fills = refl; nine = refl; two = omega arith; ten = omega arith; low = omega arith }
 
 pub au4-fits : (s : Shape) → s ≡ au4 → Fit s
 au4-fits s e = rw e au4-fit

@@ -12,6 +12,10 @@ use Rattle.shape.specs.declared.Adjustment.the-variants.{Nothing, Increm
 abbrev pub au4 : Shape
 au4 = record { step = 3; size = 2349; top = 782; columns = 261 }
 
+-- a VC-3, "85 columns by 9, 765 bytes", in a TU-3, where "the value runs 0 to 764 counting single bytes": no function takes it yet, and the theorems hold of it too
+abbrev pub tu3 : Shape
+tu3 = record { step = 1; size = 765; top = 764; columns = 85 }
+
 -- A shape that fits: its values, a step of bytes each, fill the container, and so do its nine rows. There is more than one value, and a value has ten bits.
 pub record Fit (s : Shape) : Type 0 where
   pub some : 1 ≤ s .step

@@ -26,12 +26,12 @@ use Rattle.unit_source.specs.Source.{MadeOutcome, Ready, makeFaults, wordSent, 
 use Rattle.unit_source.proofs.Answers.{makable, source-done, source-refused}
 use Rattle.unit_source_theorems.specs.Stream.{Sending, unitSourceCalled, sendingAfter, shareIn, share, underWay, atEnd, shares, ended, joined, LastSent}
 
--- ---- the bytes of two containers, cut sendingAfter k of them
+-- ---- the bytes of two containers, cut after k of them
 
 pub take-past : (x y : List ℕ) (n m : ℕ) → length x + m ≡ n → take n (x ++ y) ≡ x ++ take m y
 take-past x y n m e = ap (λ (j : ℕ). take j (x ++ y)) (sym e) ∙ take-append-add x y m
 
--- what was sent, and the run sendingAfter it, is a beginning of both containers
+-- what was sent, and the run after it, is a beginning of both containers
 run-joined : (b c : List ℕ) (n room : ℕ) → n ≤ length b → take n b ++ runOf room n b c ≡ take (n + room) (b ++ c)
 unfolding runOf
 run-joined b c n room h =
@@ -61,7 +61,7 @@ module _ (box : ℕ → List ℕ) (i z : ℕ) (b-long : length (box i) ≡ z) (c
   length-both (suc (suc zero)) h = simp (append-nil, length-append) (omega arith)
   length-both (suc (suc (suc k))) h = absurd (omega arith)
 
--- a containers, and the b sendingAfter them
+-- a containers, and the b after them
 pub joined-joined : (box : ℕ → List ℕ) (i a b : ℕ) → joined box i a ++ joined box (i + a) b ≡ joined box i (a + b)
 unfolding joined
 joined-joined box i zero b = rw (add-zero i, zero-add b)
@@ -139,7 +139,7 @@ module _ (s : Shape) (f : Fit s) (box : ℕ → List ℕ) where
 
   -- ---- THE STREAM
 
-  -- What was sent of the current container, and all that a row of calls carries sendingAfter it, are the containers that it said ended, in order and whole,
+  -- What was sent of the current container, and all that a row of calls carries after it, are the containers that it said ended, in order and whole,
   -- and then what is under way of the next. For every state, containers and lent unit, and every row of requests: a call that is refused is no unit, and carries nothing.
   pub shares-joined : (x : Sending) (row : List Adjustment)
       → underWay s box x ++ shares s box x row ≡ joined box (x .number) (ended s box x row) ++ underWay s box (atEnd s box x row)

@@ -1,4 +1,4 @@
--- A unit source unitSourceCalled again and again: it is given its containers in order, the next ones sendingAfter as many as it says ended, and the buffer of one unit is lent again for the next.
+-- A unit source called again and again: it is given its containers in order, the next ones after as many as it says ended, and the buffer of one unit is lent again for the next.
 use Prim.Native.Nat.{ℕ, zero, suc, _+_, _*_, _≤_}
 use mathlib.Core.Bool.{Bool, true, false, _&&_, not}
 use lib.Dec.{ltb}
@@ -68,7 +68,7 @@ module _ (s : Shape) (box : ℕ → List ℕ) where
   allDone x [] = true
   allDone x (a ∷ row) = isDone (unitSourceCalled x a .made .answer) && allDone (sendingAfter x a) row
 
--- adjustments with "at least three units" between them, and sendingAfter the last one before the row
+-- adjustments with "at least three units" between them, and after the last one before the row
 unfoldable pub spaced : ℕ → List Adjustment → Bool
 spaced wait [] = true
 spaced wait (a ∷ row) = not (adjusts a && ltb wait 3) && spaced (sourceWaitAfter a wait) row
@@ -78,6 +78,6 @@ unfoldable pub joined : (ℕ → List ℕ) → ℕ → ℕ → List ℕ
 joined box i zero = []
 joined box i (suc n) = box i ++ joined box (i + 1) n
 
--- among the bytes that were sent is the last byte of the container that comes i sendingAfter the current one
+-- among the bytes that were sent is the last byte of the container that comes i after the current one
 abbrev pub LastSent : Shape → List ℕ → ℕ → Type 0
 LastSent s sent i = suc i * s .size ≤ length sent

@@ -1,4 +1,4 @@
--- `pointer::freshPointer` meets its contract: it is the definition. Assumes nothing.
+-- `pointer::fresh` meets its contract: it is the definition. Assumes nothing.
 use Rattle.pointer.specs.Machine.{freshPointer}
 use borrow.Author.Needs.{needs}
 use Rattle.pointer.proofs.fresh.Statement.{statement}
