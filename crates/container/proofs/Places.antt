@@ -6,10 +6,6 @@ use native.Mathlib.Nat.{zero-mul, suc-mul, zero-add}
 use native.Mathlib.Omega.{arith}
 use lib.ListN.{length, take, drop, getD, length-append, length-drop, take-append-drop, List·getD-append}
 use lib.Seq.{length-take-le, take-at, drop-at, getD-append-add, getD-take, getD-drop}
-use lib.Bits.{bitXor, xor-comm}
-use Rattle.parity.specs.Parity.{parityOf}
-use Rattle.laws.proofs.Bits.{xor-assoc}
-use Rattle.parity.proofs.Laws.{parity-append}
 use Rattle.container.specs.Container.{rowsOf, headsOf, stripOf, containerOf, overheadIn, payloadIn, payloadSize}
 
 nothing : (l : List ℕ) → length l ≡ 0 → l ≡ []
@@ -109,22 +105,6 @@ payload-rows w (p ∷ overhead) payload (suc r) c h k l =
     ∙ getD-drop w payload (r * w + c) 0
     ∙ ap (λ (j : ℕ). getD payload j 0) m
 
--- the parity of a container is that of its overhead and that of its payload
-pub parity-rows : (w : ℕ) (overhead payload : List ℕ) → length payload ≡ length overhead * w → parityOf (rowsOf w overhead payload) ≡ bitXor (parityOf overhead) (parityOf payload)
-unfolding rowsOf parityOf
-parity-rows w [] payload h = ap parityOf (sym (nothing payload (h ∙ zero-mul w)))
-parity-rows w (p ∷ overhead) payload h =
-    let t = parityOf (take w payload) in
-    let d = parityOf (drop w payload) in
-    let o = parityOf overhead in
-    ap (bitXor p)
-    (parity-append (take w payload) (rowsOf w overhead (drop w payload))
-    ∙ ap (bitXor t) (parity-rows w overhead (drop w payload) (other-rows w (length overhead) payload h))
-    ∙ sym (xor-assoc t o d)
-    ∙ ap (λ (x : ℕ). bitXor x d) (xor-comm t o) ∙ xor-assoc o t d)
-    ∙ sym (xor-assoc p o (bitXor t d))
-    ∙ ap (bitXor (bitXor p o)) (sym (parity-append (take w payload) (drop w payload)) ∙ ap parityOf (take-append-drop w payload))
-
 -- the same of a container: nine overhead bytes, and a payload of the right length
 module _ (columns : ℕ) (overhead payload : List ℕ) (some : 0 < columns) (nine : length overhead ≡ 9) (full : length payload ≡ payloadSize columns) where
   rows-full : length payload ≡ length overhead * (columns - 1)
@@ -147,9 +127,6 @@ module _ (columns : ℕ) (overhead payload : List ℕ) (some : 0 < columns) (nin
 
   pub payload-at : (r c : ℕ) → r < 9 → c < columns - 1 → getD (containerOf columns overhead payload) (suc (r * columns + c)) 0 ≡ getD payload (r * (columns - 1) + c) 0
   payload-at r c h k = rw one-more at (payload-rows (columns - 1) overhead payload r c rows-full (rw nine h) k)
-
-  pub parity-container : parityOf (containerOf columns overhead payload) ≡ bitXor (parityOf overhead) (parityOf payload)
-  parity-container = parity-rows (columns - 1) overhead payload rows-full
 
 -- the overhead byte of row r lies at the row's first place
 pub overhead-at : (columns : ℕ) (c : List ℕ) (r : ℕ) → 0 < columns → r < 9 → getD (overheadIn columns c) r 0 ≡ getD c (r * columns) 0

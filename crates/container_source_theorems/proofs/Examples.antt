@@ -4,22 +4,30 @@ use mathlib.Core.Bool.{true}
 use mathlib.Core.List.{List, [], _∷_, map}
 use Prim.Native.Nat.{ℕ}
 use lib.ListN.{replicate}
-use Rattle.parity.specs.Parity.{parityOf}
-use Rattle.trace_message.specs.Message.{coefficients, polynomial, minus, remainder, number, check7, startByte, message}
-use Rattle.settings.specs.Settings.{labelRefused, outside, traceRefused}
-use Rattle.refusals.specs.Refusals.{numberOf, answerNumber, due, answerOf, outcome}
+use Rattle.refusals.specs.Refusals.{answerNumber, answerOf}
 use Rattle.refusals.specs.declared.Answer.the-variants.{Done}
 use Rattle.shape.specs.Shape.{au4}
-use Rattle.container.specs.Container.{rowsOf, headsOf, containerOf, overheadIn}
+use Rattle.container.specs.Container.{rowsOf, containerOf, overheadIn}
 use Rattle.container.specs.Payload.{payloadFaults}
-use Rattle.container_source.specs.Overhead.{j1Of, g1Of, overheadOf}
-use Rattle.container_source.specs.Source.{freshContainerSource, sendFaults, containerSent, containerSourceAfter, containerSource}
+use Rattle.container_source.specs.Source.{freshContainerSource, sendFaults, containerSource}
 use Rattle.container_source.specs.declared.Given.{Given}
+use Rattle.container_source.proofs.Opened as source
 
 -- ---- layout
 
 -- three columns: an overhead byte and two of payload in each row
-pub small : containerOf 3 (1 ∷ 2 ∷ 3 ∷ 4 ∷ 5 ∷ 6 ∷ 7 ∷ 8 ∷ 9 ∷ []) (11 ∷ 12 ∷ 21 ∷ 22 ∷ 31 ∷ 32 ∷ 41 ∷ 42 ∷ 51 ∷ 52 ∷ 61 ∷ 62 ∷ 71 ∷ 72 ∷ 81 ∷ 82 ∷ 91 ∷ 92 ∷ []) ≡ 1 ∷ 11 ∷ 12 ∷ 2 ∷ 21 ∷ 22 ∷ 3 ∷ 31 ∷ 32 ∷ 4 ∷ 41 ∷ 42 ∷ 5 ∷ 51 ∷ 52 ∷ 6 ∷ 61 ∷ 62 ∷ 7 ∷ 71 ∷ 72 ∷ 8 ∷ 81 ∷ 82 ∷ 9 ∷ 91 ∷ 92 ∷ []
+pub small : containerOf 3 (1 ∷ 2 ∷ 3 ∷ 4 ∷ 5 ∷ 6 ∷ 7 ∷ 8 ∷ 9 ∷ [])
+    (11 ∷ 12 ∷ 21 ∷ 22 ∷ 31 ∷ 32 ∷ 41 ∷ 42 ∷ 51 ∷ 52 ∷ 61 ∷ 62 ∷ 71 ∷ 72 ∷ 81 ∷ 82 ∷ 91 ∷ 92 ∷ [])
+    ≡ 1 ∷ 11 ∷ 12
+    ∷ 2 ∷ 21 ∷ 22
+    ∷ 3 ∷ 31 ∷ 32
+    ∷ 4 ∷ 41 ∷ 42
+    ∷ 5 ∷ 51 ∷ 52
+    ∷ 6 ∷ 61 ∷ 62
+    ∷ 7 ∷ 71 ∷ 72
+    ∷ 8 ∷ 81 ∷ 82
+    ∷ 9 ∷ 91 ∷ 92
+    ∷ []
 unfolding rowsOf
 small = refl
 
@@ -37,11 +45,11 @@ pub payload : List ℕ
 payload = 0x01 ∷ replicate 2339 0x5a
 
 pub first-overhead : overheadIn 261 (containerSource au4 freshContainerSource given trace payload (replicate 2349 0) .container) ≡ 0x8b ∷ 0x00 ∷ 0x12 ∷ 0x38 ∷ 1 ∷ 2 ∷ 3 ∷ 4 ∷ 5 ∷ []
-unfolding coefficients polynomial minus remainder number check7 startByte message labelRefused outside traceRefused due outcome rowsOf headsOf j1Of g1Of overheadOf sendFaults containerSent containerSourceAfter containerSource given trace payload
+unfolding source.opened given trace payload
 first-overhead = refl
 
 pub first-sent : containerSource au4 freshContainerSource given trace payload (replicate 2349 0) .sent ≡ record { answer = Done; state = record { place = 1; parity = 0xfb } }
-unfolding coefficients polynomial minus remainder number check7 startByte message labelRefused outside traceRefused due outcome parityOf rowsOf j1Of g1Of overheadOf sendFaults containerSent containerSourceAfter containerSource given trace payload
+unfolding source.opened given trace payload
 first-sent = refl
 
 -- ---- the order of refusals
@@ -75,10 +83,10 @@ pub answered : Row → ℕ
 answered r = answerNumber (answerOf (sendFaults au4 (r .place) (r .label) (r .trace) (r .payload) (r .container) (r .violations)))
 
 pub source-order : map answered rows ≡ 8 ∷ 4 ∷ 4 ∷ 5 ∷ 5 ∷ 2 ∷ 3 ∷ 6 ∷ 0 ∷ []
-unfolding labelRefused outside traceRefused due answerOf answerNumber numberOf sendFaults row rows answered
+unfolding source.refusals row rows answered
 source-order = refl
 
 -- "Payload call: 3, 2"
 pub payload-order : map (λ (n : ℕ). answerNumber (answerOf (payloadFaults au4 n 2339))) (2348 ∷ 2349 ∷ 2350 ∷ []) ≡ 3 ∷ 2 ∷ 3 ∷ []
-unfolding due answerOf answerNumber numberOf payloadFaults
+unfolding source.refusals payloadFaults
 payload-order = refl

@@ -4,3 +4,4 @@ pub mod Lines
 pub mod Count
 pub mod Outcome
 pub mod Examples
+pub mod Opened

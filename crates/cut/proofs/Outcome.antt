@@ -1,4 +1,4 @@
--- What is handed back stands in the done buffer and in the unit; both buffers keep their lengths. Assumes nothing.
+-- As many containers are handed back as the count says, and both buffers keep their lengths. Assumes nothing.
 use mathlib.Core.Path.{_≡_, refl}
 use mathlib.Core.Bool.{Bool, true, false, cond}
 use mathlib.Core.List.{List, _++_}
@@ -11,21 +11,9 @@ use Rattle.laws.proofs.Tests.{by-test}
 use Rattle.shape.specs.declared.Shape.{Shape}
 use Rattle.cut.specs.Cut.{Line, Sizes, cutOf, completedOf, insidePart, oneIf, endedOf, endedCount, doneOf, heldOf}
 use Rattle.cut.specs.declared.Cut.{Cut}
-use Rattle.cut.proofs.Within.{inside-fits, rest-count, rest-low}
+use Rattle.cut.proofs.Within.{rest-count, rest-low}
 
 -- ---- what ended
-
--- the container begun earlier is the done buffer after the unit, and the other is the unit's part from `next` on
-pub ended-is : (s : Shape) (c : Cut) (unit held done : List ℕ)
-    → endedOf s c unit held ≡ oneIf (c .ends) (doneOf s c unit held done) ++ oneIf (c .inside) (insidePart s c unit)
-unfolding endedOf doneOf
-ended-is s c unit held done = go (c .ends)
-  where
-    go : (b : Bool)
-        → oneIf b (completedOf s c unit held) ++ oneIf (c .inside) (insidePart s c unit)
-        ≡ oneIf b (cond b (completedOf s c unit held) done) ++ oneIf (c .inside) (insidePart s c unit)
-    go true = refl
-    go false = refl
 
 -- as many as the count says
 pub length-ended : (s : Shape) (c : Cut) (unit held : List ℕ) → length (endedOf s c unit held) ≡ endedCount c
@@ -41,10 +29,6 @@ length-ended s c unit held = go (c .ends) (c .inside)
 -- ---- lengths
 
 module _ (s : Shape) (kept from : ℕ) (unit held done : List ℕ) (l : Line s kept from) (z : Sizes s unit held done) where
-  pub inside-length : cutOf s kept from .inside ≡ true → length (insidePart s (cutOf s kept from) unit) ≡ s .size
-  unfolding insidePart
-  inside-length e = simp (length-take, length-drop) (omega (arith, z .unit-is, inside-fits s kept from l e))
-
   pub done-length : length (doneOf s (cutOf s kept from) unit held done) ≡ s .size
   unfolding doneOf completedOf cutOf
   done-length =

@@ -1,3 +1,4 @@
 pub mod Places
 pub mod Ranges
 pub mod Steps
+pub mod Opened

@@ -105,7 +105,7 @@ host-exists s m r box-is =
       makes = λ n. make-said _ _ _ _ _ _ _ _ refl;
       source-next = λ n. refl;
       number-next = λ n. refl;
-      receives = λ n. feed-said _ _ _ _ _ _ _ _ _ _ refl;
+      receives = λ n. feed-said _ _ _ _ _ _ _ _ _ refl;
       state-next = λ n. refl;
     }
 

@@ -68,23 +68,26 @@ module _ (s : Shape) (r : Run) (u : Runs s r) (label place end : ℕ) (g : Setti
           parity = rw (number-on s r u n, monitor-all s r u n w) (parity-on (s .columns) label (r .settings) (r .box) (x .source .number) (h .many) k (x .state .monitor) (h .parity));
         }
 
-    watching : (j : ℕ) → numberAt s r u (3 + j) ≤ end → Watching s r label place since (pathAt s r (3 + j))
+    -- before unit n, where the units before it ended no others
+    abbrev WatchingAt : ℕ → Type 0
+    WatchingAt n = numberAt s r u n ≤ end → Watching s r label place since (pathAt s r n)
+
+    watching-next : (n : ℕ) → 3 ≤ n → WatchingAt n → WatchingAt (suc n)
+    watching-next n w h o = watching-on n w o (h (omega (arith, o, number-on s r u n)))
+
+    watching : (j : ℕ) → WatchingAt (3 + j)
     unfolding since
-    watching zero o =
-        record {
+    watching zero =
+        λ o. record {
           many = 0;
           number-is = omega arith;
           near = near-none label (r .settings) ((place + numberAt s r u 3) % 16) (pathAt s r 3 .state .monitor) (along s r u 3 .ready .whole);
           parity = λ i e p. absurd (omega arith);
         }
-    watching (suc j) o =
-        let next = rw (add-suc 3 j) at o in
-        rw (add-suc 3 j) (watching-on (3 + j) (omega arith) next (watching j (omega (arith, next, number-on s r u (3 + j)))))
+    watching (suc j) = rw (add-suc 3 j) (watching-next (3 + j) (omega arith) (watching j))
 
-    watching-at : (n : ℕ) → 3 ≤ n → numberAt s r u n ≤ end → Watching s r label place since (pathAt s r n)
-    watching-at n w o =
-        let e : 3 + (n - 3) ≡ n = omega arith in
-        subst (λ (k : ℕ). numberAt s r u k ≤ end → Watching s r label place since (pathAt s r k)) e (watching (n - 3)) o
+    watching-at : (n : ℕ) → 3 ≤ n → WatchingAt n
+    watching-at n w = let e : 3 + (n - 3) ≡ n = omega arith in subst WatchingAt e (watching (n - 3))
 
     -- as the 66th unit has passed, and later, at least 62 were watched; as the 67th has, 63
     many-at : (j n : ℕ) → j ≤ 64 → 3 + j ≤ n → (w : 3 ≤ n) (o : numberAt s r u n ≤ end) → j ≤ watching-at n w o .many + 1

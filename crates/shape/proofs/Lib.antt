@@ -1,3 +1,4 @@
 pub mod Offsets
 pub mod Balance
 pub mod Examples
+pub mod Opened

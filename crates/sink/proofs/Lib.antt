@@ -1,2 +1,3 @@
 pub mod Refuses
 pub mod Feeds
+pub mod Opened

@@ -3,16 +3,15 @@ use mathlib.Core.Path.{_≡_, refl, sym, ap, ap₂, _∙_}
 use mathlib.Core.Bool.{Bool, true, false, cond}
 use mathlib.Core.List.{List, [], _++_}
 use Prim.Native.Nat.{ℕ, _+_, _≤_}
-use lib.ListN.{length, take, drop}
-use Rattle.refusals.specs.Refusals.{outcome}
+use lib.ListN.{length}
 use Rattle.refusals.specs.declared.Refusal.{Refusal}
 use Rattle.refusals.specs.declared.Answer.the-variants.{Done, Refused}
 use Rattle.refusals.proofs.Wrong.{outcome-done, outcome-by}
-use Rattle.shape.specs.Shape.{Fit, unitLength}
+use Rattle.shape.specs.Shape.{Fit}
 use Rattle.shape.specs.declared.Shape.{Shape}
 use Rattle.pointer.specs.Machine.{isNormal, offsetOf}
 use Rattle.pointer.specs.declared.AfterWord.{AfterWord}
-use Rattle.cut.specs.Cut.{Line, Sizes, cutOf, completedOf, insidePart, oneIf, endedOf, doneOf}
+use Rattle.cut.specs.Cut.{completedOf, insidePart, oneIf, endedOf, doneOf}
 use Rattle.cut.specs.declared.Cut.{Cut}
 use Rattle.cut.proofs.Within.{inside-fits}
 use Rattle.cut.proofs.Outcome.{done-length}
@@ -20,7 +19,7 @@ use Rattle.view.specs.View.{partOf, inOrder}
 use Rattle.view.proofs.Parts.{part-whole, part-fits}
 use Rattle.receiving.specs.Receiving.{beginIn, cutIn, endedIn, bothSeen, receivedNormal, silence, Receivable}
 use Rattle.sink.specs.Sink.{ReceivedOutcome, pointed, unitOutcome, told, refusing, sink}
-use Rattle.sink.specs.Inner.{Fed, Pointed}
+use Rattle.sink.specs.Inner.{Fed}
 use Rattle.sink.specs.declared.State.{State}
 use Rattle.sink.proofs.Refuses.{fed}
 use Rattle.sink.proofs.Feeds.{receivable}

@@ -3,19 +3,17 @@ use mathlib.Core.Path.{_≡_, refl}
 use mathlib.Core.List.{List, [], _∷_, map}
 use Prim.Native.Nat.{ℕ}
 use lib.ListN.{replicate}
-use Rattle.settings.specs.Settings.{labelRefused, outside, traceRefused}
 use Rattle.settings.specs.Flags.{flagsOf}
-use Rattle.settings.specs.Faults.{pathFaults, settingsFaults}
 use Rattle.settings.specs.declared.Settings.{Settings}
-use Rattle.refusals.specs.Refusals.{numberOf, answerNumber, due, answerOf}
-use Rattle.shape.specs.Shape.{au4, heldCount}
+use Rattle.refusals.specs.Refusals.{answerNumber, answerOf}
+use Rattle.shape.specs.Shape.{au4}
 use Rattle.pointer_rules.specs.Rules.{noRun}
 use Rattle.pointer_rules.specs.declared.State.the-variants.{Normal}
 use Rattle.pointer.specs.Machine as pointer
-use Rattle.trace_monitor.specs.Trace.{blankTrace}
 use Rattle.monitor.specs.Monitoring as monitor
-use Rattle.sink.specs.Sink.{sinkOutOfRange, sinkFaults}
+use Rattle.sink.specs.Sink.{sinkFaults}
 use Rattle.sink.specs.declared.State.{State}
+use Rattle.sink_theorems.proofs.Opened.{opened}
 
 -- normal at an offset, with so many bytes held, and so many containers without a message
 pub standing : ℕ → ℕ → ℕ → State
@@ -58,5 +56,5 @@ pub answered : Row → ℕ
 answered r = answerNumber (answerOf (sinkFaults au4 (r .state) (r .settings) (r .unit) (r .held) (r .done)))
 
 pub sink-order : map answered rows ≡ 8 ∷ 8 ∷ 8 ∷ 4 ∷ 4 ∷ 5 ∷ 5 ∷ 1 ∷ 1 ∷ 3 ∷ 3 ∷ 0 ∷ []
-unfolding labelRefused outside traceRefused pathFaults settingsFaults due answerOf answerNumber numberOf heldCount pointer.offsetOf pointer.placed pointer.pointerInRange blankTrace monitor.blankOf monitor.watchInRange sinkOutOfRange sinkFaults standing row rows answered
+unfolding opened standing row rows answered
 sink-order = refl

@@ -9,7 +9,6 @@ use lib.ListN.{length, getD}
 use borrow.Author.Tests.{eq-eqb, eqb-true, ltb-true}
 use Rattle.laws.proofs.Tests.{and-left, and-right}
 use Rattle.trace_message.specs.Message.{startByte, message, topBitsClear, goodMessage, traceCheck}
-use Rattle.trace_message.proofs.Division.{check7-lt}
 
 -- ---- the start byte
 
@@ -17,11 +16,6 @@ use Rattle.trace_message.proofs.Division.{check7-lt}
 pub start-high : (cs : List ℕ) → 0x80 ≤ startByte cs
 unfolding startByte
 start-high cs = omega arith
-
--- it is a byte
-pub start-lt : (cs : List ℕ) → startByte cs < 256
-unfolding startByte
-start-lt cs = omega (arith, check7-lt (0x80 ∷ cs))
 
 -- ---- characters
 
@@ -42,10 +36,6 @@ good-own cs h = rw (h, eq-eqb (startByte cs) (startByte cs) refl)
 pub good-start : (start : ℕ) (cs : List ℕ) → goodMessage start cs ≡ true → start ≡ startByte cs
 unfolding goodMessage
 good-start start cs h = eqb-true start (startByte cs) (and-right (topBitsClear cs) (eqb start (startByte cs)) h)
-
-pub good-clear : (start : ℕ) (cs : List ℕ) → goodMessage start cs ≡ true → topBitsClear cs ≡ true
-unfolding goodMessage
-good-clear start cs h = and-left (topBitsClear cs) (eqb start (startByte cs)) h
 
 -- the message of 15 characters passes the host's trace check
 pub check-own : (cs : List ℕ) → length cs ≡ 15 → topBitsClear cs ≡ true → traceCheck (message cs) ≡ true

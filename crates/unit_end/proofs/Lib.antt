@@ -1,3 +1,4 @@
 pub mod Decide
 pub mod Formulas
 pub mod Together
+pub mod Opened

@@ -5,13 +5,12 @@ use mathlib.Core.List.{List, [], _∷_, map}
 use Prim.Native.Nat.{ℕ}
 use native.Mathlib.Omega.{arith}
 use lib.ListN.{take, replicate}
-use Rattle.refusals.specs.Refusals.{due, outcome}
-use Rattle.shape.specs.Shape.{au4, Fit, heldCount, upOf, downOf, offsetAfter, runFrom, endedBy}
+use Rattle.shape.specs.Shape.{au4, Fit}
 use Rattle.shape.specs.declared.Shape.{Shape}
 use Rattle.shape.specs.declared.Adjustment.{Adjustment}
 use Rattle.shape.specs.declared.Adjustment.the-variants.{Nothing, Increment, Decrement}
-use Rattle.unit.specs.Unit.{groupOf, headOf, runOf}
-use Rattle.unit_source.specs.Source.{freshUnitSource, adjusts, sourceOutOfRange, makeFaults, wordSent, unitSent, sourceWaitAfter, unitSourceAfter, unitSource}
+use Rattle.unit_source.specs.Source.{freshUnitSource, unitSent}
+use Rattle.unit_source.proofs.Opened as source
 use Rattle.unit_source_theorems.specs.Stream.{Sending, isDone, unitSourceCalled, sendingAfter, shareIn, shares, ended, allDone, joined}
 
 -- ---- AU-4
@@ -26,7 +25,7 @@ pub heads : map at-one (Nothing ∷ Increment ∷ Decrement ∷ [])
     ∷ (0x6a ∷ 0x9b ∷ 0x9b ∷ 0xab ∷ 0xff ∷ 0xff ∷ 0 ∷ 0 ∷ 0 ∷ 0 ∷ 0 ∷ 0 ∷ 0x11 ∷ [])
     ∷ (0x69 ∷ 0x9b ∷ 0x9b ∷ 0x54 ∷ 0xff ∷ 0xff ∷ 0x11 ∷ 0x11 ∷ 0x11 ∷ 0x22 ∷ 0x22 ∷ 0x22 ∷ 0x22 ∷ [])
     ∷ []
-unfolding heldCount runFrom groupOf headOf runOf wordSent unitSent at-one
+unfolding source.opened at-one
 heads = refl
 
 -- ---- a run
@@ -50,19 +49,19 @@ row = Increment ∷ Increment ∷ Nothing ∷ Nothing ∷ Nothing ∷ Decrement 
 
 -- The unit of each adjustment: the inverted word, and 00 in the skipped place, or a container byte in H3.
 pub first-unit : unitSourceCalled small box fresh Increment .unit ≡ 0x6a ∷ 0xaa ∷ 0 ∷ 0 ∷ replicate 8 0
-unfolding due outcome heldCount upOf downOf offsetAfter runFrom endedBy groupOf headOf runOf adjusts sourceOutOfRange makeFaults wordSent unitSent sourceWaitAfter unitSourceAfter unitSource box fresh
+unfolding source.opened box fresh
 first-unit = refl
 
 -- 13 units were made; 13 containers ended, 0 of them in the first unit and 2 in the first decrement; and the source is at 0 again
 pub counted : ended small box fresh row ≡ 13
-unfolding due outcome heldCount upOf downOf offsetAfter runFrom endedBy groupOf headOf runOf adjusts sourceOutOfRange makeFaults wordSent unitSent sourceWaitAfter unitSourceAfter unitSource box fresh ended sendingAfter row
+unfolding source.opened box fresh ended sendingAfter row
 counted = refl
 
 pub carried : shares small box fresh row ≡ joined box 0 13
-unfolding due outcome heldCount upOf downOf offsetAfter runFrom endedBy groupOf headOf runOf adjusts sourceOutOfRange makeFaults wordSent unitSent sourceWaitAfter unitSourceAfter unitSource box fresh ended sendingAfter shares shareIn joined row
+unfolding source.opened box fresh ended sendingAfter shares shareIn joined row
 carried = refl
 
 -- the second request came too soon, and was refused
 pub too-soon : allDone small box fresh row ≡ false
-unfolding due outcome heldCount upOf downOf offsetAfter runFrom endedBy groupOf headOf runOf adjusts sourceOutOfRange makeFaults wordSent unitSent sourceWaitAfter unitSourceAfter unitSource box fresh sendingAfter allDone isDone row
+unfolding source.opened box fresh sendingAfter allDone isDone row
 too-soon = refl

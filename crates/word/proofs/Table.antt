@@ -1,6 +1,6 @@
 -- The table of NDF kinds has a rule, proved once over the whole table: a code is normal where at least three of its four bits are those of 0110,
 -- enabled where at least three are those of 1001, and no code is both. Assumes nothing.
-use mathlib.Core.Path.{_≡_, refl, sym, _∙_}
+use mathlib.Core.Path.{_≡_, refl}
 use mathlib.Core.Bool.{Bool, true, false, cond, _&&_, not, false≢true}
 use Prim.Native.Nat.{ℕ, _-_, _/_, _≤_, _<_}
 use native.Mathlib.Omega.{arith}

@@ -1,10 +1,8 @@
 -- `parity::each` meets its contract: what is gathered, with the parity of what is left, is the parity of all. Assumes nothing.
-use mathlib.Core.Path.{_≡_, refl, sym, ap, _∙_}
-use Prim.Native.Nat.{ℕ, _≤_, _<_, _-_, _+_}
-use native.Mathlib.Numerals.{add-one}
+use mathlib.Core.Path.{_≡_, refl}
+use Prim.Native.Nat.{_≤_, _-_}
 use native.Mathlib.Omega.{arith}
-use lib.ListN.{length, drop, getD}
-use lib.Seq.{drop-cons, drop-length}
+use lib.ListN.{length, drop}
 use lib.Bits.{bitXor}
 use Rattle.parity.specs.Parity.{parityOf}
 use Rattle.parity.proofs.Laws.{parity-turn, parity-end}

@@ -1,5 +1,5 @@
 -- `pointer_rules::adjust` meets its contract: the two tests, in their order. Assumes nothing.
-use Rattle.pointer_rules.specs.Rules.{adjustment}
+use Rattle.pointer_rules.proofs.Takes.{adjusts-up, adjusts-down, adjusts-neither}
 use borrow.Author.Needs.{needs}
 use Rattle.pointer_rules.proofs.adjust.Statement.{statement}
 use Rattle.pointer_rules.proofs.adjust.Tie as tie
@@ -8,19 +8,16 @@ offset-after-requires : tie.Need-offset-after-requires
 offset-after-requires c κs = search needs
 
 returns : tie.Need-returns
-unfolding adjustment
-returns c = simp (c .before .if1 .taken, c .offset-after .ensures)
+returns c = search adjusts-up
 
 offset-after-requires-2 : tie.Need-offset-after-requires-2
 offset-after-requires-2 c κs = search needs
 
 returns-2 : tie.Need-returns-2
-unfolding adjustment
-returns-2 c = simp (c .before .before .if1 .left, c .before .if2 .taken, c .offset-after2 .ensures)
+returns-2 c = search adjusts-down
 
 returns-3 : tie.Need-returns-3
-unfolding adjustment
-returns-3 c = simp (c .before .if1 .left, c .if2 .left)
+returns-3 c = search adjusts-neither
 
 pub adjust-spec : {M : Type 1} → statement M
 adjust-spec =

@@ -1,6 +1,7 @@
 -- `pointer_rules::is_elsewhere` meets its contract: an answer for each case. Assumes nothing.
 use Rattle.pointer_rules.specs.Rules.{elsewhere}
 use Rattle.laws.proofs.Tests.{tests}
+use Rattle.pointer_rules.proofs.Takes.{elsewhere-normal}
 use borrow.Author.Needs.{needs}
 use Rattle.pointer_rules.proofs.is_elsewhere.Statement.{statement}
 use Rattle.pointer_rules.proofs.is_elsewhere.Tie as tie
@@ -15,8 +16,7 @@ enum-told-2 : tie.Need-enum-told-2
 enum-told-2 c = search needs
 
 returns : tie.Need-returns
-unfolding elsewhere
-returns c = simp (c .before .state .given .1)
+returns c = search elsewhere-normal
 
 returns-2 : tie.Need-returns-2
 unfolding elsewhere

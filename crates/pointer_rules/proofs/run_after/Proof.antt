@@ -1,5 +1,5 @@
 -- `pointer_rules::run_after` meets its contract: one more of the run, or none. Assumes nothing.
-use Rattle.pointer_rules.specs.Rules.{runAfter}
+use Rattle.pointer_rules.proofs.Takes.{run-goes-on, run-ends}
 use borrow.Author.Needs.{needs}
 use Rattle.pointer_rules.proofs.run_after.Statement.{statement}
 use Rattle.pointer_rules.proofs.run_after.Tie as tie
@@ -14,12 +14,10 @@ run-on-requires : tie.Need-run-on-requires
 run-on-requires c κs = search needs
 
 returns : tie.Need-returns
-unfolding runAfter
-returns c = simp (← (c .before .before .before .before .is-good .ensures), c .before .before .before .if1 .taken, ← (c .before .before .value .ensures), c .run-on .ensures)
+returns c = search run-goes-on
 
 returns-2 : tie.Need-returns-2
-unfolding runAfter
-returns-2 c = simp (← (c .before .is-good .ensures), c .if1 .left)
+returns-2 c = search run-ends
 
 pub run-after-spec : {M : Type 1} → statement M
 run-after-spec =

@@ -1,13 +1,11 @@
 -- `pointer_rules::take` meets its contract: the rules, in their order. Assumes nothing.
-use borrow.Author.Tests.{eq-eqb, ne-eqb}
-use Rattle.pointer_rules.specs.Rules.{takenAs}
+use Rattle.pointer_rules.proofs.Takes.{takes-alarm, takes-new-data, takes-resync, takes-by-state}
 use borrow.Author.Needs.{needs}
 use Rattle.pointer_rules.proofs.take.Statement.{statement}
 use Rattle.pointer_rules.proofs.take.Tie as tie
 
 returns : tie.Need-returns
-unfolding takenAs
-returns c = simp (eq-eqb _ _ (c .if1 .taken))
+returns c = search takes-alarm
 
 value-requires : tie.Need-value-requires
 value-requires c κs = search needs
@@ -16,22 +14,19 @@ is-good-requires : tie.Need-is-good-requires
 is-good-requires c κs = search needs
 
 returns-2 : tie.Need-returns-2
-unfolding takenAs
-returns-2 c = simp (ne-eqb _ _ (c .before .before .before .if1 .left), ← (c .before .is-good .ensures), c .if2 .taken, c .before .before .value .ensures)
+returns-2 c = search takes-new-data
 
 is-elsewhere-requires : tie.Need-is-elsewhere-requires
 is-elsewhere-requires c κs = search needs
 
 returns-3 : tie.Need-returns-3
-unfolding takenAs
-returns-3 c = simp (ne-eqb _ _ (c .before .before .before .before .before .if1 .left), ← (c .before .before .before .is-good .ensures), c .before .before .if2 .left, ← (c .before .before .before .before .value .ensures), ← (c .before .is-elsewhere .ensures), c .if3 .taken)
+returns-3 c = search takes-resync
 
 take-by-state-requires : tie.Need-take-by-state-requires
 take-by-state-requires c κs = search needs
 
 returns-4 : tie.Need-returns-4
-unfolding takenAs
-returns-4 c = simp (ne-eqb _ _ (c .before .before .before .before .before .before .if1 .left), ← (c .before .before .before .before .is-good .ensures), c .before .before .before .if2 .left, ← (c .before .before .before .before .before .value .ensures), ← (c .before .before .is-elsewhere .ensures), c .before .if3 .left, c .take-by-state .ensures)
+returns-4 c = search takes-by-state
 
 pub take-spec : {M : Type 1} → statement M
 take-spec =

@@ -1,5 +1,5 @@
 -- `pointer_rules::take_by_state` meets its contract: a rule for each state. Assumes nothing.
-use Rattle.pointer_rules.specs.Rules.{byState}
+use Rattle.pointer_rules.proofs.Takes.{in-normal, in-alarm, in-lost}
 use borrow.Author.Needs.{needs}
 use Rattle.pointer_rules.proofs.take_by_state.Statement.{statement}
 use Rattle.pointer_rules.proofs.take_by_state.Tie as tie
@@ -23,16 +23,13 @@ take-outside-requires-2 : tie.Need-take-outside-requires-2
 take-outside-requires-2 c κs = search needs
 
 returns : tie.Need-returns
-unfolding byState
-returns c = simp (c .before .before .state .given .1, c .take-normal .ensures)
+returns c = search in-normal
 
 returns-2 : tie.Need-returns-2
-unfolding byState
-returns-2 c = simp (c .before .enum-told .given .1, c .take-outside .ensures)
+returns-2 c = search in-alarm
 
 returns-3 : tie.Need-returns-3
-unfolding byState
-returns-3 c = simp (c .before .enum-told2 .given .1, c .take-outside2 .ensures)
+returns-3 c = search in-lost
 
 pub take-by-state-spec : {M : Type 1} → statement M
 take-by-state-spec =

@@ -1,5 +1,5 @@
 -- `pointer_rules::take_outside` meets its contract: the one test. Assumes nothing.
-use Rattle.pointer_rules.specs.Rules.{inAlarmOrLost}
+use Rattle.pointer_rules.proofs.Takes.{outside-nothing, outside-invalid}
 use borrow.Author.Needs.{needs}
 use Rattle.pointer_rules.proofs.take_outside.Statement.{statement}
 use Rattle.pointer_rules.proofs.take_outside.Tie as tie
@@ -8,12 +8,10 @@ is-good-requires : tie.Need-is-good-requires
 is-good-requires c κs = search needs
 
 returns : tie.Need-returns
-unfolding inAlarmOrLost
-returns c = simp (← (c .before .is-good .ensures), c .if1 .taken)
+returns c = search outside-nothing
 
 returns-2 : tie.Need-returns-2
-unfolding inAlarmOrLost
-returns-2 c = simp (← (c .before .is-good .ensures), c .if1 .left)
+returns-2 c = search outside-invalid
 
 pub take-outside-spec : {M : Type 1} → statement M
 take-outside-spec = tie.close (tie.spec is-good-requires returns returns-2)

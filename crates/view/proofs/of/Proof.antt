@@ -144,7 +144,11 @@ module _ {M : Type 1} (𝓤 : URA M) (H : Heap 𝓤) (A : Atoms 𝓤) (W : Given
         -- [what t owns; what s owns; _6; …; the token]
         move ! (16 ∷ 1 ∷ []) $ use2 W (raw (Part 𝓤 H A mem run .pre (to s (d .completed) 0))) (asked s (d .completed) 0 (lit< tt)) $
         -- [what is asked; what t owns; _6; …]
-        calls-at ! fm (Part 𝓤 H A mem run) known (to s (d .completed) 0) (and-then ! (load ! (from ! (stop !)) (look ! 8 refl)) (and-then ! (load ! (from ! (fld ! refl (stop !))) (look-in ! 12 (sub ! 1 refl (whole !)))) (and-then ! (lit ! tt) (and-then ! (load ! (from ! (stop !)) (look ! 10 refl)) (no-more !))))) (λ u.
+        calls-at ! fm (Part 𝓤 H A mem run) known (to s (d .completed) 0)
+        (and-then ! (load ! (from ! (stop !)) (look ! 8 refl))
+        (and-then ! (load ! (from ! (fld ! refl (stop !))) (look-in ! 12 (sub ! 1 refl (whole !))))
+        (and-then ! (lit ! tt)
+        (and-then ! (load ! (from ! (stop !)) (look ! 10 refl)) (no-more !))))) (λ u.
         use1 W (later (some (λ (r : RefT (List ℕ)). (Token ⊛ ‵ (Own r u)) ⊛ raw (ensured 𝓤 H A part.ended (part.clauses 𝓤 H A mem run) (κ, tt) (s, (d .completed, (0, (z, tt)))) tt r)))) (id⊢ 𝓤 _) $ await ! tt $ pick ! (λ r.
         split ! $ move ! (1 ∷ []) $ use1 W (raw (fact 𝓤 (Says s (d .completed) 0 r))) (said s (d .completed) 0 r) $ heard ! (Says s (d .completed) 0 r) (λ e. split ! $ move ! (1 ∷ []) $
         peeks ! (ShrSlice (named 0) κ u8) (Is (ShrSlice (named 0) κ u8)) (shows 𝓤 H A (ShrSlice (named 0) κ u8)) r (u ∷ []) (λ is.
@@ -152,7 +156,11 @@ module _ {M : Type 1} (𝓤 : URA M) (H : Heap 𝓤) (A : Atoms 𝓤) (W : Given
         land ! (from ! (stop !)) (init ! 5 refl (shr-slice-lawful 𝓤 H A W erased κ u8 .typed r (u ∷ []) is .0)) $
         move ! (1 ∷ 2 ∷ []) $ use2 W (raw (Part 𝓤 H A mem run .pre (to t (d .inside) (d .place)))) (asked t (d .inside) (d .place) place-fits) $
         -- [what is asked; what r owns; _6; …]
-        calls-at ! fm (Part 𝓤 H A mem run) known (to t (d .inside) (d .place)) (and-then ! (load ! (from ! (stop !)) (look ! 6 refl)) (and-then ! (load ! (from ! (fld ! refl (stop !))) (look-in ! 12 (sub ! 2 refl (whole !)))) (and-then ! (load ! (from ! (fld ! refl (stop !))) (look-in ! 12 (sub ! 3 refl (whole !)))) (and-then ! (load ! (from ! (stop !)) (look ! 10 refl)) (no-more !))))) (λ u′.
+        calls-at ! fm (Part 𝓤 H A mem run) known (to t (d .inside) (d .place))
+        (and-then ! (load ! (from ! (stop !)) (look ! 6 refl))
+        (and-then ! (load ! (from ! (fld ! refl (stop !))) (look-in ! 12 (sub ! 2 refl (whole !))))
+        (and-then ! (load ! (from ! (fld ! refl (stop !))) (look-in ! 12 (sub ! 3 refl (whole !))))
+        (and-then ! (load ! (from ! (stop !)) (look ! 10 refl)) (no-more !))))) (λ u′.
         use1 W (later (some (λ (r′ : RefT (List ℕ)). (Token ⊛ ‵ (Own r′ u′)) ⊛ raw (ensured 𝓤 H A part.ended (part.clauses 𝓤 H A mem run) (κ, tt) (t, (d .inside, (d .place, (z, tt)))) tt r′)))) (id⊢ 𝓤 _) $ await ! tt $ pick ! (λ r′.
         split ! $ move ! (1 ∷ []) $ use1 W (raw (fact 𝓤 (Says t (d .inside) (d .place) r′))) (said t (d .inside) (d .place) r′) $ heard ! (Says t (d .inside) (d .place) r′) (λ e′. split ! $ move ! (1 ∷ []) $
         peeks ! (ShrSlice (named 0) κ u8) (Is (ShrSlice (named 0) κ u8)) (shows 𝓤 H A (ShrSlice (named 0) κ u8)) r′ (u′ ∷ []) (λ is′.
