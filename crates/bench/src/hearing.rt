@@ -3,18 +3,11 @@ use crate::say;
 use receiving::Ended;
 use receiving::Told;
 use refusals::Answer;
+use settings::Settings;
 use sink::Received;
 use unit_end::Actions;
 use unit_end::Causes;
 use unit_end::Defects;
-use unit_end::Flags;
-
-// The sink's settings.
-pub struct Expected {
-    pub label: u8,
-    pub trace: [u8; 15],
-    pub flags: Flags,
-}
 
 fn say_state(s: pointer_rules::State) {
     match s {
@@ -52,20 +45,22 @@ fn say_container(container: &[u8], told: Told, last: &mut [u8]) {
 // The one completed is the first that ended.
 fn say_completed<'a>(x: Ended, unit: &'a [u8], done: &'a [u8], last: &mut [u8]) {
     let told = x.first;
+    let shape = shape::au4_shape();
     if x.completed {
         say::text(b" c=D@0");
-        say_container(view::container(x, 2349, done, unit, 0), told, last);
+        say_container(view::container(x, shape.size, done, unit, 0), told, last);
     }
 }
 
 // The one inside is behind it, where there is one.
 fn say_inside<'a>(x: Ended, unit: &'a [u8], done: &'a [u8], last: &mut [u8]) {
     let told = x.second;
+    let shape = shape::au4_shape();
     if x.inside {
         let k = x.completed as usize;
         say::text(b" c=U@");
         say::decimal(x.place as u64);
-        say_container(view::container(x, 2349, done, unit, k), told, last);
+        say_container(view::container(x, shape.size, done, unit, k), told, last);
     }
 }
 
@@ -143,15 +138,13 @@ fn say_received<'a>(r: Received, unit: &'a [u8], held: &[u8], done: &'a [u8], la
 // `sink`: the sink is fed the unit.
 pub fn feed(
     s: sink::State,
-    e: Expected,
+    e: Settings,
     unit: &[u8],
     held: &mut [u8],
     done: &mut [u8],
     last: &mut [u8],
 ) -> sink::State {
-    let characters = e.trace;
-    let flags = e.flags;
-    let r = sink::sink(s, e.label, &characters, flags, unit, held, done);
+    let r = sink::sink(s, e, unit, held, done);
     let answer = r.answer;
     match answer {
         Answer::Refused(_) => {

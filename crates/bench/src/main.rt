@@ -6,12 +6,12 @@ mod say;
 mod script;
 mod sending;
 
-use hearing::Expected;
 use libc::STDERR_FILENO;
 use libc::STDIN_FILENO;
 use sending::Sent;
 use sending::Sources;
 use sending::least;
+use settings::Settings;
 use shape::Adjustment;
 
 // How much of the line, of held and of done there is.
@@ -26,7 +26,7 @@ struct Bench {
     sources: Sources,
     sink: sink::State,
     sent: Sent,
-    expected: Expected,
+    settings: Settings,
     lengths: Lengths,
 }
 
@@ -34,7 +34,7 @@ struct Bench {
 fn with_line(b: Bench, sources: Sources, line: usize) -> Bench {
     let sink = b.sink;
     let sent = b.sent;
-    let expected = b.expected;
+    let settings = b.settings;
     let old = b.lengths;
     let lengths = Lengths {
         line,
@@ -45,7 +45,7 @@ fn with_line(b: Bench, sources: Sources, line: usize) -> Bench {
         sources,
         sink,
         sent,
-        expected,
+        settings,
         lengths,
     }
 }
@@ -53,13 +53,13 @@ fn with_line(b: Bench, sources: Sources, line: usize) -> Bench {
 fn with_sink(b: Bench, sink: sink::State) -> Bench {
     let sources = b.sources;
     let sent = b.sent;
-    let expected = b.expected;
+    let settings = b.settings;
     let lengths = b.lengths;
     Bench {
         sources,
         sink,
         sent,
-        expected,
+        settings,
         lengths,
     }
 }
@@ -67,18 +67,18 @@ fn with_sink(b: Bench, sink: sink::State) -> Bench {
 fn with_sent(b: Bench, sent: Sent) -> Bench {
     let sources = b.sources;
     let sink = b.sink;
-    let expected = b.expected;
+    let settings = b.settings;
     let lengths = b.lengths;
     Bench {
         sources,
         sink,
         sent,
-        expected,
+        settings,
         lengths,
     }
 }
 
-fn with_expected(b: Bench, expected: Expected) -> Bench {
+fn with_settings(b: Bench, settings: Settings) -> Bench {
     let sources = b.sources;
     let sink = b.sink;
     let sent = b.sent;
@@ -87,7 +87,7 @@ fn with_expected(b: Bench, expected: Expected) -> Bench {
         sources,
         sink,
         sent,
-        expected,
+        settings,
         lengths,
     }
 }
@@ -96,18 +96,18 @@ fn with_lengths(b: Bench, lengths: Lengths) -> Bench {
     let sources = b.sources;
     let sink = b.sink;
     let sent = b.sent;
-    let expected = b.expected;
+    let settings = b.settings;
     Bench {
         sources,
         sink,
         sent,
-        expected,
+        settings,
         lengths,
     }
 }
 
 // Fresh machines at the lengths of the start, with these settings.
-fn started(sent: Sent, expected: Expected) -> Bench {
+fn started(sent: Sent, settings: Settings) -> Bench {
     let sources = sending::fresh();
     let sink = sink::fresh();
     let lengths = Lengths {
@@ -119,7 +119,7 @@ fn started(sent: Sent, expected: Expected) -> Bench {
         sources,
         sink,
         sent,
-        expected,
+        settings,
         lengths,
     }
 }
@@ -393,7 +393,7 @@ fn tx(s: &[u8], number: u64, before: Sent) -> Sent {
     }
 }
 
-fn rx(s: &[u8], number: u64, before: Expected) -> Expected {
+fn rx(s: &[u8], number: u64, before: Settings) -> Settings {
     let mut trace = [0u8; 15];
     let label = script::hex(s, 1, 1);
     let n = script::bytes(s, 2, &mut trace);
@@ -402,10 +402,10 @@ fn rx(s: &[u8], number: u64, before: Expected) -> Expected {
         say::unknown(number);
         return before;
     }
-    Expected {
+    Settings {
         label: (label.value % 256) as u8,
         trace,
-        flags: unit_end::flags_of((flags.value % 16) as u8),
+        flags: settings::flags_of((flags.value % 16) as u8),
     }
 }
 
@@ -471,13 +471,13 @@ fn src(b: Bench, s: &[u8], number: u64, queue: &mut [u8], line: &mut [u8]) -> Be
 fn feed(b: Bench, line: &[u8], held: &mut [u8], done: &mut [u8], last: &mut [u8]) -> Bench {
     let lengths = b.lengths;
     let before = b.sink;
-    let expected = b.expected;
+    let settings = b.settings;
     let l = least(lengths.line, line.len());
     let h = least(lengths.held, held.len());
     let d = least(lengths.done, done.len());
     let after = hearing::feed(
         before,
-        expected,
+        settings,
         &line[..l],
         &mut held[..h],
         &mut done[..d],
@@ -505,8 +505,8 @@ fn wipe(line: &mut [u8], held: &mut [u8], done: &mut [u8], store: &mut [u8]) {
 // `fresh`: the settings stay.
 fn fresh(b: Bench) -> Bench {
     let sent = b.sent;
-    let expected = b.expected;
-    started(sent, expected)
+    let settings = b.settings;
+    started(sent, settings)
 }
 
 // ---- one line of the script, by groups of commands
@@ -554,9 +554,9 @@ fn set(b: Bench, code: u8, s: &[u8], number: u64) -> Bench {
         let sent = tx(s, number, old);
         return with_sent(b, sent);
     }
-    let old = b.expected;
-    let expected = rx(s, number, old);
-    with_expected(b, expected)
+    let old = b.settings;
+    let settings = rx(s, number, old);
+    with_settings(b, settings)
 }
 
 fn prepare(b: Bench, code: u8, s: &[u8], number: u64, held: &mut [u8], done: &mut [u8]) -> Bench {
@@ -668,13 +668,13 @@ fn play(script: &[u8]) {
         violations: 0,
         remote: false,
     };
-    let flags = unit_end::flags_of(0);
-    let expected = Expected {
+    let flags = settings::flags_of(0);
+    let settings = Settings {
         label: 1,
         trace: spaces,
         flags,
     };
-    let b = started(sent, expected);
+    let b = started(sent, settings);
     play_lines(b, script, &mut line, &mut held, &mut done, &mut store);
 }
 

@@ -8,7 +8,6 @@ use Rattle.shape.specs.Shape.{au4}
 use Rattle.pointer_rules.specs.declared.State as reading
 use Rattle.pointer.specs.Machine.{offsetOf}
 use Rattle.settings.specs.declared.Settings.{Settings}
-use Rattle.settings.specs.declared.Flags.{Flags}
 use Rattle.sink.specs.Sink.{freshSink, sink, Receives}
 use Rattle.sink.specs.declared.State.{State}
 use Rattle.sink.specs.declared.Received.{Received}

@@ -8,11 +8,10 @@ use lib.ListN.{length}
 use Rattle.copier.specs.Put.{put}
 use Rattle.refusals.specs.Refusals.{answerNumber}
 use Rattle.shape.specs.Shape.{au4}
-use Rattle.pointer_rules.specs.declared.State as reading
+use Rattle.pointer_rules.specs.declared.State as pointer-state
 use Rattle.pointer_rules.specs.declared.State.the-variants.{Normal, Alarm, Lost}
 use Rattle.pointer.specs.Machine.{isNormal, isAlarm, offsetOf}
 use Rattle.settings.specs.declared.Settings.{Settings}
-use Rattle.settings.specs.declared.Flags.{Flags}
 use Rattle.receiving.specs.declared.Ended.{Ended}
 use Rattle.view.specs.View.{containerHanded}
 use Rattle.sink.specs.declared.State.{State}
@@ -22,10 +21,10 @@ use Rattle.probe_sink.specs.declared.Plain.{Plain}
 use Rattle.probe_sink.specs.declared.Shown.{Shown}
 
 -- 0 lost, 1 alarm, any other normal at the offset
-unfoldable pub pointerState : ℕ → ℕ → reading.State
+unfoldable pub pointerState : ℕ → ℕ → pointer-state.State
 pointerState kind offset = cond (eqb kind 0) Lost (cond (eqb kind 1) Alarm (Normal offset))
 
-unfoldable pub stateKind : reading.State → ℕ
+unfoldable pub stateKind : pointer-state.State → ℕ
 stateKind (Normal _) = 2
 stateKind Alarm = 1
 stateKind Lost = 0

@@ -3,17 +3,16 @@
 ghost use mathlib.Core.Path.{_≡_};
 ghost use Rattle.sink.specs.Sink as sink;
 ghost use Rattle.probe_sink.specs.Probe.{pointerState, stateKind, stateOf, plainOf, shownOf, Shows, WritesContainer};
-use monitor::Settings;
 use monitor::Monitor;
 use pointer::Pointer;
 use pointer::Rows;
 use pointer_rules::Run;
 use receiving::Ended;
+use settings::Settings;
 use sink::Received;
 use unit_end::Actions;
 use unit_end::Causes;
 use unit_end::Defects;
-use unit_end::Flags;
 
 // A sink's state: the kind is 0 for lost, 1 for alarm, 2 for normal; the offset counts where it is normal.
 #[repr(C)]
@@ -134,16 +133,14 @@ pub extern "C" fn probe_fresh_sink() -> Plain
 #[no_mangle]
 pub extern "C" fn probe_sink(
     s: Plain,
-    label: u8,
-    characters: &[u8; 15],
-    flags: Flags,
+    e: Settings,
     unit: &[u8],
     held: &mut [u8],
     done: &mut [u8],
 ) -> Shown
-    ensures { λ r. ⌜ Shows s (record { label = label; trace = now (characters .entry) }) flags (now (unit .entry)) (now (held .entry)) (now (done .entry)) r (now (held .exit)) (now (done .exit)) ⌝ }
+    ensures { λ r. ⌜ Shows s e (now (unit .entry)) (now (held .entry)) (now (done .entry)) r (now (held .exit)) (now (done .exit)) ⌝ }
 {
-    show(sink::sink(state_of(s), label, characters, flags, unit, held, done))
+    show(sink::sink(state_of(s), e, unit, held, done))
 }
 
 // The container that ended k-th in a unit, counted from 0, taken through the view: its bytes are written to the start of `out`, and their number is answered. Where so many

@@ -8,6 +8,8 @@ use borrow.Fn.Kinds.{Out, endedOf, PK, RK, Dens, resT}
 use contract.Lifetimes.{Lfts}
 use denote.Triple.Clauses.{AtExit}
 use denote.Ref.{now}
+use Rattle.refusals.specs.declared.Answer.{Answer}
+use Rattle.settings.specs.declared.Flags.{Flags}
 use Rattle.text.specs.Text.{Written}
 use Rattle.records.specs.declared.First.{First}
 use Rattle.catalogue.specs.declared.Checked.{Checked}
@@ -26,6 +28,12 @@ use Rattle.settings.proofs.label_refused.Kinds as settings-label-refused
 use Rattle.settings.proofs.label_refused.Reads as settings-label-refused-promise
 use Rattle.settings.proofs.trace_refused.Kinds as settings-trace-refused
 use Rattle.settings.proofs.trace_refused.Reads as settings-trace-refused-promise
+use Rattle.settings.proofs.flags_of.Kinds as settings-flags-of
+use Rattle.settings.proofs.flags_of.Reads as settings-flags-of-promise
+use Rattle.settings.proofs.path_answer.Kinds as settings-path-answer
+use Rattle.settings.proofs.path_answer.Reads as settings-path-answer-promise
+use Rattle.settings.proofs.answer.Kinds as settings-answer
+use Rattle.settings.proofs.answer.Reads as settings-answer-promise
 use Rattle.word.proofs.of.Kinds as word-of
 use Rattle.word.proofs.of.Reads as word-of-promise
 use Rattle.word.proofs.h1.Kinds as word-h1
@@ -138,6 +146,15 @@ settings-label-refused-determined κs a x y s t p q = p ∙ sym q
 
 pub settings-trace-refused-determined : Determines {O = Bool} 1 settings-trace-refused.ps settings-trace-refused.r settings-trace-refused-promise.Post (λ κs r e. r)
 settings-trace-refused-determined κs a x y s t p q = p ∙ sym q
+
+pub settings-flags-of-determined : Determines {O = Flags} 0 settings-flags-of.ps settings-flags-of.r settings-flags-of-promise.Post (λ κs r e. r)
+settings-flags-of-determined κs a x y s t p q = p ∙ sym q
+
+pub settings-path-answer-determined : Determines {O = Answer} 1 settings-path-answer.ps settings-path-answer.r settings-path-answer-promise.Post (λ κs r e. r)
+settings-path-answer-determined κs a x y s t p q = p ∙ sym q
+
+pub settings-answer-determined : Determines {O = Answer} 0 settings-answer.ps settings-answer.r settings-answer-promise.Post (λ κs r e. r)
+settings-answer-determined κs a x y s t p q = p ∙ sym q
 
 -- ---- word
 

@@ -11,13 +11,12 @@ use Rattle.pointer_rules.specs.declared.Taken.{Taken}
 use Rattle.pointer.specs.declared.Pointer.{Pointer}
 use Rattle.pointer.specs.declared.AfterWord.{AfterWord}
 use Rattle.cut.specs.declared.Cut.{Cut}
-use Rattle.overhead.specs.declared.Label.{Label}
+use Rattle.overhead.specs.declared.Accepted.{Accepted}
 use Rattle.overhead.specs.declared.Defect.{Defect}
 use Rattle.trace_monitor.specs.declared.Trace.{Trace}
 use Rattle.monitor.specs.declared.Overhead.{Overhead}
 use Rattle.monitor.specs.declared.Monitor.{Monitor}
 use Rattle.monitor.specs.declared.Seen.{Seen}
-use Rattle.settings.specs.declared.Flags.{Flags}
 use Rattle.unit_end.specs.declared.Defects.{Defects}
 use Rattle.unit_end.specs.declared.Actions.{Actions}
 use Rattle.unit_end.specs.declared.Causes.{Causes}
@@ -61,8 +60,10 @@ use Rattle.overhead.proofs.violations.Kinds as overhead-violations
 use Rattle.overhead.proofs.violations.Reads as overhead-violations-promise
 use Rattle.overhead.proofs.label_fits.Kinds as overhead-label-fits
 use Rattle.overhead.proofs.label_fits.Reads as overhead-label-fits-promise
-use Rattle.overhead.proofs.label_step.Kinds as overhead-label-step
-use Rattle.overhead.proofs.label_step.Reads as overhead-label-step-promise
+use Rattle.overhead.proofs.accept_step.Kinds as overhead-accept-step
+use Rattle.overhead.proofs.accept_step.Reads as overhead-accept-step-promise
+use Rattle.overhead.proofs.mismatch.Kinds as overhead-mismatch
+use Rattle.overhead.proofs.mismatch.Reads as overhead-mismatch-promise
 use Rattle.overhead.proofs.defect_step.Kinds as overhead-defect-step
 use Rattle.overhead.proofs.defect_step.Reads as overhead-defect-step-promise
 use Rattle.overhead.proofs.remote.Kinds as overhead-remote
@@ -75,14 +76,14 @@ use Rattle.trace_monitor.proofs.blank.Kinds as trace-monitor-blank
 use Rattle.trace_monitor.proofs.blank.Reads as trace-monitor-blank-promise
 use Rattle.monitor.proofs.see.Kinds as monitor-see
 use Rattle.monitor.proofs.see.Reads as monitor-see-promise
+use Rattle.monitor.proofs.forget.Kinds as monitor-forget
+use Rattle.monitor.proofs.forget.Reads as monitor-forget-promise
 use Rattle.monitor.proofs.blank.Kinds as monitor-blank
 use Rattle.monitor.proofs.blank.Reads as monitor-blank-promise
 use Rattle.monitor.proofs.in_range.Kinds as monitor-in-range
 use Rattle.monitor.proofs.in_range.Reads as monitor-in-range-promise
 use Rattle.monitor.proofs.step.Kinds as monitor-step
 use Rattle.monitor.proofs.step.Reads as monitor-step-promise
-use Rattle.unit_end.proofs.flags_of.Kinds as unit-end-flags-of
-use Rattle.unit_end.proofs.flags_of.Reads as unit-end-flags-of-promise
 use Rattle.unit_end.proofs.defects_of.Kinds as unit-end-defects-of
 use Rattle.unit_end.proofs.defects_of.Reads as unit-end-defects-of-promise
 use Rattle.unit_end.proofs.actions_of.Kinds as unit-end-actions-of
@@ -174,8 +175,11 @@ overhead-violations-determined κs a x y s t p q = p ∙ sym q
 pub overhead-label-fits-determined : Determines {O = Bool} 0 overhead-label-fits.ps overhead-label-fits.r overhead-label-fits-promise.Post (λ κs r e. r)
 overhead-label-fits-determined κs a x y s t p q = p ∙ sym q
 
-pub overhead-label-step-determined : Determines {O = Label} 0 overhead-label-step.ps overhead-label-step.r overhead-label-step-promise.Post (λ κs r e. r)
-overhead-label-step-determined κs a x y s t p q = p ∙ sym q
+pub overhead-accept-step-determined : Determines {O = Accepted} 0 overhead-accept-step.ps overhead-accept-step.r overhead-accept-step-promise.Post (λ κs r e. r)
+overhead-accept-step-determined κs a x y s t p q = p ∙ sym q
+
+pub overhead-mismatch-determined : Determines {O = Bool} 0 overhead-mismatch.ps overhead-mismatch.r overhead-mismatch-promise.Post (λ κs r e. r)
+overhead-mismatch-determined κs a x y s t p q = p ∙ sym q
 
 pub overhead-defect-step-determined : Determines {O = Defect} 0 overhead-defect-step.ps overhead-defect-step.r overhead-defect-step-promise.Post (λ κs r e. r)
 overhead-defect-step-determined κs a x y s t p q = p ∙ sym q
@@ -199,6 +203,9 @@ trace-monitor-blank-determined κs a x y s t p q = p ∙ sym q
 pub monitor-see-determined : Determines {O = Overhead} 1 monitor-see.ps monitor-see.r monitor-see-promise.Post (λ κs r e. r)
 monitor-see-determined κs a x y s t p q = p ∙ sym q
 
+pub monitor-forget-determined : Determines {O = Monitor} 0 monitor-forget.ps monitor-forget.r monitor-forget-promise.Post (λ κs r e. r)
+monitor-forget-determined κs a x y s t p q = p ∙ sym q
+
 pub monitor-blank-determined : Determines {O = Monitor} 0 monitor-blank.ps monitor-blank.r monitor-blank-promise.Post (λ κs r e. r)
 monitor-blank-determined κs a x y s t p q = p ∙ sym q
 
@@ -209,9 +216,6 @@ pub monitor-step-determined : Determines {O = Seen} 0 monitor-step.ps monitor-st
 monitor-step-determined κs a x y s t p q = p ∙ sym q
 
 -- ---- unit_end
-
-pub unit-end-flags-of-determined : Determines {O = Flags} 0 unit-end-flags-of.ps unit-end-flags-of.r unit-end-flags-of-promise.Post (λ κs r e. r)
-unit-end-flags-of-determined κs a x y s t p q = p ∙ sym q
 
 pub unit-end-defects-of-determined : Determines {O = Defects} 0 unit-end-defects-of.ps unit-end-defects-of.r unit-end-defects-of-promise.Post (λ κs r e. r)
 unit-end-defects-of-determined κs a x y s t p q = p ∙ sym q
@@ -251,7 +255,7 @@ view-container-determined κs a x y s t p q = p ∙ sym q
 pub sink-fresh-determined : Determines {O = State} 0 sink-fresh.ps sink-fresh.r sink-fresh-promise.Post (λ κs r e. r)
 sink-fresh-determined κs a x y s t p q = p ∙ sym q
 
-pub sink-determined : Determines {O = ReceivedOutcome} 4 sink.ps sink.r sink-promise.Post (λ κs r e. record { received = r; held = now (e .1 .1 .1 .1 .1 .0); done = now (e .1 .1 .1 .1 .1 .1 .0) })
+pub sink-determined : Determines {O = ReceivedOutcome} 3 sink.ps sink.r sink-promise.Post (λ κs r e. record { received = r; held = now (e .1 .1 .1 .0); done = now (e .1 .1 .1 .1 .0) })
 sink-determined κs a x y s t p q = p .outcome-is ∙ sym (q .outcome-is)
 
 -- ---- probe_sink
@@ -259,7 +263,7 @@ sink-determined κs a x y s t p q = p .outcome-is ∙ sym (q .outcome-is)
 pub probe-fresh-sink-determined : Determines {O = Plain} 0 probe-fresh-sink.ps probe-fresh-sink.r probe-fresh-sink-promise.Post (λ κs r e. r)
 probe-fresh-sink-determined κs a x y s t p q = p ∙ sym q
 
-pub probe-sink-determined : Determines {O = SinkProbed} 4 probe-sink.ps probe-sink.r probe-sink-promise.Post (λ κs r e. record { shown = r; held = now (e .1 .1 .1 .1 .1 .0); done = now (e .1 .1 .1 .1 .1 .1 .0) })
+pub probe-sink-determined : Determines {O = SinkProbed} 3 probe-sink.ps probe-sink.r probe-sink-promise.Post (λ κs r e. record { shown = r; held = now (e .1 .1 .1 .0); done = now (e .1 .1 .1 .1 .0) })
 probe-sink-determined κs a x y s t p q = p ∙ sym q
 
 pub probe-handed-determined : Determines {O = ContainerWritten} 2 probe-handed.ps probe-handed.r probe-handed-promise.Post (λ κs r e. record { number = r; bytes = now (e .1 .1 .1 .1 .0) })

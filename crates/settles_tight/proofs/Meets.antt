@@ -11,6 +11,8 @@ use Rattle.laws.proofs.Tables.{every, every-at}
 use Rattle.parity.specs.Parity.{parityOf}
 use Rattle.trace_message.specs.Message as of-check
 use Rattle.settings.specs.Settings.{labelRefused, outside, traceRefused}
+use Rattle.settings.proofs.Opened as settings
+use Rattle.settles_monitor.proofs.Labels.{fits-own}
 use Rattle.refusals.specs.Refusals as of-refusals
 use Rattle.refusals.specs.declared.Answer.the-variants.{Done}
 use Rattle.shape.specs.Shape as of-shape
@@ -89,11 +91,13 @@ module _ (place : ℕ) (low : place ≤ 14) (ask : ℕ → Adjustment) where
   supplied state k = let e : (place + suc k) % 16 ≡ (place + 1 + k) % 16 = omega arith in ap container e ∙ container-is (place + 1) (omega arith) k
 
   pub good : (noneBefore : ℕ) (state : sink.State) → Spaced noneBefore ask → Good noneBefore au4 (making (place + 1)) (run place ask state)
-  unfolding call given trace labelRefused outside traceRefused
+  unfolding call given trace settings.opened
   good noneBefore state spaced =
       record {
-        fine = record { label-fine = refl; trace-fine = refl; trace-is = refl; unit-is = refl; held-is = refl; done-is = refl };
+        fine = record { settings-fine = refl; trace-is = refl; unit-is = refl; held-is = refl; done-is = refl };
         under-way = container-full ((place + 0) % 16);
+        label = 0x12;
+        label-fits = fits-own 0x12;
         given = λ k. record { label-is = refl; trace-is = refl; no-remote = refl; violations-low = omega arith; payload-is = refl; container-is = refl };
         spaced = spaced;
       }

@@ -9,7 +9,7 @@ use Rattle.shape.specs.declared.Adjustment.{Adjustment}
 use Rattle.shape.specs.declared.Adjustment.the-variants.{Nothing, Increment, Decrement}
 use Rattle.sink_theorems.specs.Reach.{SinkCall, reached}
 use Rattle.settles.specs.Demand.{Run}
-use Rattle.settles_tight.specs.Signal.{expected, flags, run}
+use Rattle.settles_tight.specs.Signal.{settings, run}
 
 -- ---- the worst
 

@@ -12,7 +12,6 @@ use Rattle.container_source.specs.Source.{containerSent}
 use Rattle.container_source.specs.declared.Given.{Given}
 use Rattle.container_source_theorems.specs.Run as sending
 use Rattle.settings.specs.declared.Settings.{Settings}
-use Rattle.settings.specs.declared.Flags.{Flags}
 use Rattle.sink.specs.declared.State.{State}
 use Rattle.settles.specs.Demand.{Run, Making, Asked}
 
@@ -20,11 +19,8 @@ use Rattle.settles.specs.Demand.{Run, Making, Asked}
 unfoldable pub trace : List ℕ
 trace = 0x30 ∷ 0x33 ∷ 0x45 ∷ 0x35 ∷ replicate 11 0x20
 
-abbrev pub expected : Settings
-expected = record { label = 0x12; trace = trace }
-
-abbrev pub flags : Flags
-flags = record { monitored = true; rdi = true; ssf = true; ais = true }
+abbrev pub settings : Settings
+settings = record { label = 0x12; trace = trace; flags = record { monitored = true; rdi = true; ssf = true; ais = true } }
 
 -- ---- the containers
 
@@ -56,8 +52,7 @@ run place ask state =
     record {
       box = λ k. container ((place + k) % 16);
       ask = ask;
-      expected = expected;
-      flags = flags;
+      settings = settings;
       source = record { offset = 782; wait = 0 };
       state = state;
       unit = replicate 2358 0;
