@@ -4,6 +4,9 @@
 //! here are none that are not there. For every call answers, states and buffers
 //! are the same, and the tests below ask both.
 //!
+//! It is the rival of the base and stays so: AU-4 alone, by the base rules. A
+//! later request changes it only where that costs nothing.
+//!
 //! States are changed in place, nothing is allocated, bytes go by
 //! `copy_from_slice`, and parity is taken 32 bytes at a time. A sink at rest
 //! that is fed a plain unit, as nearly all are, has a way of its own.
