@@ -271,6 +271,8 @@ fn sink_refusals_come_in_the_order_8_4_5_1_3(shape: Shape) {
     assert_eq!(eight(pointer(PointerReader { enabled_words: 9, ..p })), 8);
     assert_eq!(eight(pointer(PointerReader { invalid_words: 9, ..p })), 8);
     assert_eq!(eight(pointer(PointerReader { run: 4, ..p })), 8);
+    assert_eq!(eight(pointer(PointerReader { run_value: last, ..p })), 0);
+    assert_eq!(eight(pointer(PointerReader { run_value: last + 1, ..p })), 8);
     assert_eq!(eight(pointer(PointerReader { wait: 4, ..p })), 8);
     assert_eq!(eight(pointer(reader(last + 1))), 8);
     assert_eq!(eight(pointer(reader(last))), 8);
