@@ -16,6 +16,7 @@ mod second;
 mod stack;
 
 use proved::c;
+use second::AU4;
 use std::cell::{Cell, RefCell};
 use std::hint::black_box;
 use std::time::Instant;
@@ -174,7 +175,7 @@ fn run(offset: u16, adjusting: bool) -> Run {
     for k in 0..160 {
         while queue.len() < 2 {
             let mut container = vec![0; CONTAINER];
-            containers = second::container_source(containers, given, &TRACE, &bytes(PAYLOAD, seed), &mut container).expect("a container");
+            containers = second::container_source(AU4, containers, given, &TRACE, &bytes(PAYLOAD, seed), &mut container).expect("a container");
             queue.push(container);
             seed += 2;
         }
@@ -185,7 +186,7 @@ fn run(offset: u16, adjusting: bool) -> Run {
         };
         let mut unit = vec![0; UNIT];
         let before = held_count(source.offset);
-        let (ended, after) = second::unit_source(source, asked, &queue[0], &queue[1], &mut unit).expect("a unit");
+        let (ended, after) = second::unit_source(AU4, source, asked, &queue[0], &queue[1], &mut unit).expect("a unit");
         source = after;
         queue.drain(..usize::from(ended));
         // a container begun earlier is completed: the held bytes, and the others from the unit; what is left is held
@@ -224,7 +225,7 @@ fn sinks(what: &str, run: &Run) {
     let plain_turn = |mut s: second::Sink| {
         let (mut held, mut done) = (held.borrow_mut(), done.borrow_mut());
         for unit in &run.units {
-            match second::sink(&s, &EXPECTED, unit, &mut held, &mut done, &mut |_| {}) {
+            match second::sink(AU4, &s, &EXPECTED, unit, &mut held, &mut done, &mut |_| {}) {
                 Ok((after, answer)) => {
                     black_box(answer);
                     s = after;
@@ -398,7 +399,7 @@ fn sources() {
             })),
             ("second program", &mut || once(1600, &mut || {
                 let mut to = room.borrow_mut();
-                let r = second::container_source(plain_state.get(), black_box(given), &TRACE, black_box(&payload), &mut to[..CONTAINER]);
+                let r = second::container_source(AU4, plain_state.get(), black_box(given), &TRACE, black_box(&payload), &mut to[..CONTAINER]);
                 plain_state.set(r.expect("a container"));
             })),
             ("(b) one parity and one copy", &mut || once(1600, &mut || {
@@ -436,7 +437,7 @@ fn sources() {
                 ("second program", &mut || once(2000, &mut || {
                     let mut to = room.borrow_mut();
                     let s = second::UnitSource { offset: black_box(offset), wait: 3 };
-                    black_box(second::unit_source(s, asked, black_box(&other), black_box(&other), &mut to).is_ok());
+                    black_box(second::unit_source(AU4, s, asked, black_box(&other), black_box(&other), &mut to).is_ok());
                 })),
                 ("one memcpy", &mut || once(2000, &mut || memcpy(black_box(&other), black_box(&mut room.borrow_mut()[..CONTAINER])))),
             ],
@@ -460,7 +461,7 @@ fn sources() {
                 })),
                 ("second program", &mut || once(2000, &mut || {
                     let mut to = room.borrow_mut();
-                    black_box(second::payload_call(black_box(&other), ais, &mut to[..PAYLOAD]).is_ok());
+                    black_box(second::payload_call(AU4, black_box(&other), ais, &mut to[..PAYLOAD]).is_ok());
                 })),
             ],
         );

@@ -17,10 +17,11 @@ mod scripts;
 #[path = "../second/second.rs"]
 mod second;
 
-use bench::{Bench, Counts};
+use bench::Bench;
 use proved::c::{Defect, Flags, Gathered, Label, Monitor, Parity, Plain, Rows, Run, Shown, Trace};
 use random::Random;
-use second::{Ended, Pointer, Sink, Watch};
+use second::coverage::{Counts, NAMES};
+use second::{Ended, Pointer, Sink, Watch, AU4};
 use std::fmt::Write as _;
 
 /// How long a script is. A shorter one would not settle; a longer one starts fresh less often.
@@ -190,7 +191,7 @@ struct Card {
 impl Card {
     fn fresh() -> Self {
         let (containers, units) = proved::fresh();
-        let buffer = || vec![0; second::CONTAINER_LENGTH].into_boxed_slice();
+        let buffer = || vec![0; AU4.container()].into_boxed_slice();
         Card { containers, units, queue: Vec::new(), seed: 0, sink: proved::fresh_sink(), held: buffer(), done: buffer() }
     }
 }
@@ -235,12 +236,12 @@ impl Load {
         };
         let mut answer = String::new();
         while card.queue.len() < 2 {
-            let mut container = vec![0; second::CONTAINER_LENGTH];
+            let mut container = vec![0; AU4.container()];
             let (number, after) = proved::container_source(card.containers, given, &b.sent_trace, &bench::payload(card.seed), &mut container);
             self.calls += 1;
             if number != 0 {
                 self.same("the state after a refused container", card.containers, after);
-                self.same_bytes("the room for a refused container", &vec![0; second::CONTAINER_LENGTH], &container);
+                self.same_bytes("the room for a refused container", &vec![0; AU4.container()], &container);
                 answer = format!("container refused {number}");
                 break;
             }
@@ -250,7 +251,7 @@ impl Load {
         }
         if answer.is_empty() {
             let mut line = before.to_vec();
-            line.resize(second::UNIT_LENGTH, 0);
+            line.resize(AU4.unit(), 0);
             let (number, ended, after) = proved::unit_source(card.units, asked, &card.queue[0], &card.queue[1], &mut line);
             self.calls += 1;
             self.same_bytes("the unit", &b.line, &line);
@@ -289,8 +290,8 @@ impl Load {
     /// byte too short is left as it was. Of each program the unit and the done buffer are given.
     fn handed(&mut self, what: &str, ended: &[Ended], second: (&[u8], &[u8]), shown: &Shown, proved: (&[u8], &[u8])) {
         for k in 0..=2 {
-            let want = ended.get(k).map_or(&[][..], |x| x.place.container(second.0, second.1));
-            let mut room = vec![0xEE; second::CONTAINER_LENGTH].into_boxed_slice();
+            let want = ended.get(k).map_or(&[][..], |x| x.place.container(AU4, second.0, second.1));
+            let mut room = vec![0xEE; AU4.container()].into_boxed_slice();
             let number = proved::handed(shown.ended, proved.0, proved.1, k, &mut room);
             self.same_bytes(what, want, &room[..number]);
             self.same("what lies behind it", true, room[number..].iter().all(|x| *x == 0xEE));
@@ -313,7 +314,7 @@ impl Load {
         let given = plain(&s);
         let shown = proved::sink(proved::between_fields_0(&given), e.label, &e.trace, flags(e), &unit, &mut held, &mut done);
         self.states += 1;
-        match second::sink(&s, e, &b.line, &mut held_2, &mut done_2, &mut |_| {}) {
+        match second::sink(AU4, &s, e, &b.line, &mut held_2, &mut done_2, &mut |_| {}) {
             Err(number) => {
                 self.same("the refusal of any state", number, shown.number);
                 self.same("the state after its refusal", given, shown.state);
@@ -458,8 +459,8 @@ fn main() {
         load.states,
         load.refused_8,
         load.stopped,
-        bench::NAMES.len() - unmet.len(),
-        bench::NAMES.len(),
+        NAMES.len() - unmet.len(),
+        NAMES.len(),
         load.differed
     );
     let mut failed = load.differed > 0;

@@ -7,10 +7,11 @@
 #![allow(dead_code)]
 #![forbid(unsafe_code)]
 
+use crate::second::coverage::{self, Note};
 use crate::second::{
-    self, Asked, ContainerSource, Ended, Expected, Given, Place, Pointer, Refusal, Sink, UnitSource,
+    self, Asked, ContainerSource, Ended, Expected, Given, Place, Pointer, Refusal, Sink, UnitSource, AU4,
 };
-use std::collections::{HashMap, VecDeque};
+use std::collections::VecDeque;
 use std::fmt::Write as _;
 
 /// "A script is at most 1048576 bytes".
@@ -18,134 +19,6 @@ pub const LONGEST_SCRIPT: usize = 1_048_576;
 
 /// The longest that `len` and `lens` make.
 const LONGEST_BUFFER: u32 = 4096;
-
-/// The name of each case that a script can meet.
-pub const NAMES: &[&str] = &[
-    // The word
-    "word.ndf-0000", "word.ndf-0001", "word.ndf-0010", "word.ndf-0011",
-    "word.ndf-0100", "word.ndf-0101", "word.ndf-0110", "word.ndf-0111",
-    "word.ndf-1000", "word.ndf-1001", "word.ndf-1010", "word.ndf-1011",
-    "word.ndf-1100", "word.ndf-1101", "word.ndf-1110", "word.ndf-1111",
-    "word.ss-00", "word.ss-01", "word.ss-10", "word.ss-11",
-    "run.begins", "run.grows", "run.stops-at-3", "run.ended-at-2",
-    "run.other-value-after-1", "run.other-value-after-2", "run.other-value-after-3",
-    "row.two-alarm-words-ended", "row.seven-new-data-ended", "row.seven-invalid-ended",
-    "wait.stops-at-3",
-    // Its rules
-    "1.fewer-than-three-in-normal", "1.fewer-than-three-in-alarm", "1.fewer-than-three-in-lost",
-    "1.to-alarm-from-normal", "1.to-alarm-from-alarm", "1.to-alarm-from-lost", "1.count-stops-at-3",
-    "2.same-offset", "2.other-offset", "2.from-alarm", "2.seventh", "2.eighth-to-lost",
-    "2.in-lost", "2.in-lost-count-stops-at-8",
-    "3.other-offset", "3.from-alarm", "3.from-lost",
-    "4.plain", "4.plain-other-ndf",
-    "4.increment", "4.increment-782-to-0", "4.decrement", "4.decrement-0-to-782",
-    "4.increment-exact", "4.increment-by-three", "4.increment-two-against", "4.increment-most",
-    "4.decrement-exact", "4.decrement-by-three", "4.decrement-two-against", "4.decrement-most",
-    "4.adjusted-by-a-value-out-of-range",
-    "5.in-alarm", "5.in-lost",
-    "6.ndf-neither", "6.ndf-neither-and-ss", "6.normal-and-ss",
-    "6.enabled-and-ss", "6.enabled-out-of-range", "6.enabled-and-ss-out-of-range",
-    "6.bits-too-few", "6.bits-three-of-each", "6.bits-and-out-of-range",
-    "6.out-of-range-in-alarm", "6.out-of-range-in-lost",
-    "6.increment-too-early-by-3", "6.increment-too-early-by-2", "6.increment-too-early-by-1",
-    "6.decrement-too-early-by-3", "6.decrement-too-early-by-2", "6.decrement-too-early-by-1",
-    "6.in-normal", "6.in-alarm", "6.in-lost", "6.in-lost-count-stops-at-8",
-    "6.eighth-to-lost-from-normal", "6.eighth-to-lost-from-alarm",
-    // The unit
-    "drop.new-data-nothing-held", "drop.new-data-held", "drop.found-nothing-held", "drop.found-held",
-    "drop.parity-forgotten",
-    "ended.none-by-increment", "ended.none-after-a-drop",
-    "ended.one-in-done", "ended.one-in-done-none-begun", "ended.one-in-done-by-increment",
-    "ended.one-in-done-by-decrement", "ended.one-in-done-by-alarm-word", "ended.one-in-done-by-invalid",
-    "ended.one-in-unit", "ended.one-in-unit-from-h3", "ended.one-in-unit-after-a-drop",
-    "ended.one-in-unit-by-alarm-or-invalid", "ended.two",
-    "offset.0", "offset.1", "offset.521", "offset.522", "offset.781", "offset.782", "offset.other",
-    "clears.held-count", "clears.parity", "clears.accepted-label", "clears.accepted-trace",
-    "clears.dUNEQ", "clears.dTIM", "clears.dPLM", "clears.dRDI", "clears.message-place",
-    "clears.message-run", "clears.count-to-48", "clears.label-run", "clears.run-of-00", "clears.run-of-remote",
-    // The container
-    "violations.no-last-parity",
-    "violations.0", "violations.1", "violations.2", "violations.3", "violations.4",
-    "violations.5", "violations.6", "violations.7", "violations.8",
-    "returned.0", "returned.1", "returned.2", "returned.3", "returned.4", "returned.5",
-    "returned.6", "returned.7", "returned.8", "returned.9-as-0", "returned.10-as-0",
-    "returned.11-as-0", "returned.12-as-0", "returned.13-as-0", "returned.14-as-0", "returned.15-as-0",
-    "label.run-begins", "label.run-of-1-to-3-ended", "label.run-of-4-ended", "label.run-of-5-ended",
-    "label.run-stops-at-5", "label.accepted-first", "label.accepted-again", "label.accepted-other",
-    "dPLM.set", "dPLM.cleared",
-    "dPLM.not-yet-set-without-a-container", "dPLM.not-yet-cleared-without-a-container",
-    "dUNEQ.set", "dUNEQ.cleared", "dUNEQ.not-set-by-four", "dUNEQ.not-cleared-by-four", "dUNEQ.run-stops-at-5",
-    "dRDI.set", "dRDI.cleared", "dRDI.not-set-by-four", "dRDI.not-cleared-by-four", "dRDI.run-stops-at-5",
-    "message.starts", "message.cut", "message.cut-at-15", "message.cut-ends-a-run",
-    "message.stray", "message.stray-ends-a-run", "message.wrong", "message.wrong-ends-a-run",
-    "message.good-first", "message.good-second", "message.good-third", "message.good-run-stops-at-3",
-    "message.good-other-after-1-or-2", "message.good-other-after-3",
-    "count.to-0", "count.47-to-0", "count.48-to-0", "count.stops-at-48",
-    "trace.accepted-first", "trace.accepted-again", "trace.accepted-other",
-    "dTIM.set-by-a-message", "dTIM.cleared", "dTIM.stays-by-a-message",
-    "dTIM.set-by-the-48th", "dTIM.stays-by-the-48th", "dTIM.set-by-one-after-48",
-    // The unit's end
-    "action.SSF", "action.none", "action.TSF-by-dUNEQ-alone", "action.TSF-by-dTIM-alone",
-    "action.TSF-by-both", "action.AIS-by-dPLM-alone", "action.REI",
-    "cause.none", "cause.cAIS", "cause.cLOP", "cause.cSSF", "cause.cUNEQ", "cause.cTIM", "cause.cRDI", "cause.cPLM",
-    "cause.cSSF-with-cAIS", "cause.cSSF-with-cLOP", "cause.cRDI-with-cPLM",
-    "cause.cAIS-alone", "cause.cLOP-alone", "cause.cSSF-alone", "cause.cRDI-alone", "cause.cPLM-alone",
-    "cause.cPLM-not-monitored", "cause.alarm-not-reported", "cause.SSF-not-reported", "cause.SSF-not-monitored",
-    "cause.dUNEQ-not-monitored", "cause.dTIM-not-monitored", "cause.dTIM-under-dUNEQ",
-    "cause.dRDI-under-dUNEQ", "cause.dRDI-under-dTIM", "cause.dRDI-not-monitored", "cause.dRDI-not-reported",
-    "cause.dPLM-under-dUNEQ", "cause.dPLM-under-dTIM",
-    "unit.settled", "unit.unsettled",
-    "unsettled.no-label-accepted", "unsettled.no-trace-accepted", "unsettled.by-dRDI-alone",
-    "unsettled.by-the-expected-trace-alone", "unsettled.by-the-expected-label-alone",
-    // Answers of the calls
-    "container.made", "container.refused-4", "container.refused-5", "container.refused-6",
-    "container.refused-second",
-    "unit.made", "unit.refused-7",
-    "sink.normal", "sink.alarm", "sink.lost",
-    "sink.refused-4", "sink.refused-5", "sink.refused-1", "sink.refused-3",
-    "sink.refused-4-before-5", "sink.refused-4-before-1", "sink.refused-4-before-3",
-    "sink.refused-5-before-1", "sink.refused-5-before-3", "sink.refused-1-before-3",
-    "sink.refused-3-held-alone", "sink.refused-3-done-alone",
-    "payload.of-none", "payload.of-done", "payload.of-unit", "payload.all-ones",
-    "catalogue.none", "catalogue.some", "catalogue.512",
-    "catalogue.refused-9", "catalogue.refused-10", "catalogue.refused-11", "catalogue.refused-4",
-    "catalogue.refused-5", "catalogue.refused-12", "catalogue.refused-13",
-    "lookup.found", "lookup.refused-14", "lookup.catalogue-refused",
-    "list.listed", "list.refused",
-    "parity.asked", "check.no", "check.yes", "read.asked", "read.not-two-bytes",
-    "script.not-understood", "script.comment", "script.blank",
-];
-
-/// How often each name was met.
-pub struct Counts(HashMap<&'static str, u64>);
-
-impl Counts {
-    pub fn new() -> Self {
-        Counts(NAMES.iter().map(|name| (*name, 0)).collect())
-    }
-
-    /// One more. Every name must stand in the list.
-    pub fn note(&mut self, name: &'static str) {
-        match self.0.get_mut(name) {
-            Some(count) => *count += 1,
-            None => panic!("{name} is not in the list of names"),
-        }
-    }
-
-    /// The names that were not met.
-    pub fn unmet(&self) -> Vec<&'static str> {
-        NAMES.iter().copied().filter(|name| self.0[name] == 0).collect()
-    }
-
-    /// One line `name count` for each.
-    pub fn text(&self) -> String {
-        let mut text = String::new();
-        for name in NAMES {
-            let _ = writeln!(text, "{name} {}", self.0[name]);
-        }
-        text
-    }
-}
 
 /// "32-bit FNV-1a over the bytes".
 pub fn fnv(bytes: &[u8]) -> u32 {
@@ -160,7 +33,7 @@ pub fn fnv(bytes: &[u8]) -> u32 {
 /// mod 2^32, and the byte is the top eight bits of x".
 pub fn payload(seed: u32) -> Vec<u8> {
     let mut x = seed;
-    (0..second::PAYLOAD_LENGTH)
+    (0..AU4.payload())
         .map(|_| {
             x = x.wrapping_mul(1_664_525).wrapping_add(1_013_904_223);
             (x >> 24) as u8
@@ -342,9 +215,9 @@ impl Bench {
             sink: Sink::fresh(),
             queue: VecDeque::new(),
             seed: 0,
-            line: vec![0x00; second::UNIT_LENGTH],
-            held: vec![0x00; second::CONTAINER_LENGTH],
-            done: vec![0x00; second::CONTAINER_LENGTH],
+            line: vec![0x00; AU4.unit()],
+            held: vec![0x00; AU4.container()],
+            done: vec![0x00; AU4.container()],
             last: None,
             ended: Vec::new(),
             given: Given {
@@ -371,7 +244,7 @@ impl Bench {
 
     /// One line of the script, its number counted from 1; what it prints goes
     /// to `out`.
-    pub fn line(&mut self, line: &[u8], count: usize, out: &mut Vec<u8>, note: second::Note) {
+    pub fn line(&mut self, line: &[u8], count: usize, out: &mut Vec<u8>, note: Note) {
         // "A line that is empty or holds only blanks is a blank line; a comment
         // has `#` as its first character."
         if line.iter().all(|character| *character == b' ') {
@@ -392,7 +265,7 @@ impl Bench {
         out.extend_from_slice(text.as_bytes());
     }
 
-    fn run(&mut self, command: Command, note: second::Note) -> String {
+    fn run(&mut self, command: Command, note: Note) -> String {
         match command {
             Command::Fresh => {
                 // "Settings stay".
@@ -463,34 +336,25 @@ impl Bench {
         String::new()
     }
 
-    fn source(&mut self, asked: Asked, note: second::Note) -> String {
+    fn source(&mut self, asked: Asked, note: Note) -> String {
         // "The container queue is filled to two, each new one by the container
         // source with payload(seed counter), counter then + 1."
         while self.queue.len() < 2 {
-            let mut container = vec![0x00; second::CONTAINER_LENGTH];
+            let mut container = vec![0x00; AU4.container()];
             let bytes = payload(self.seed);
-            match second::container_source(self.containers, self.given, &self.sent_trace, &bytes, &mut container) {
+            let made = second::container_source(AU4, self.containers, self.given, &self.sent_trace, &bytes, &mut container);
+            coverage::container_asked(made.err(), self.queue.len(), note);
+            match made {
                 Ok(after) => {
-                    note("container.made");
                     self.containers = after;
                     self.queue.push_back(container);
                     self.seed = self.seed.wrapping_add(1);
                 }
-                Err(number) => {
-                    note(match number {
-                        4 => "container.refused-4",
-                        5 => "container.refused-5",
-                        _ => "container.refused-6",
-                    });
-                    if self.queue.len() == 1 {
-                        note("container.refused-second");
-                    }
-                    return format!("container refused {number}\n");
-                }
+                Err(number) => return format!("container refused {number}\n"),
             }
         }
-        self.line.resize(second::UNIT_LENGTH, 0x00);
-        match second::unit_source(self.units, asked, &self.queue[0], &self.queue[1], &mut self.line) {
+        self.line.resize(AU4.unit(), 0x00);
+        match second::unit_source(AU4, self.units, asked, &self.queue[0], &self.queue[1], &mut self.line) {
             Ok((ended, after)) => {
                 note("unit.made");
                 self.units = after;
@@ -510,13 +374,14 @@ impl Bench {
         }
     }
 
-    fn feed(&mut self, note: second::Note) -> String {
+    fn feed(&mut self, note: Note) -> String {
         self.ended.clear();
-        let fed = second::sink(&self.sink, &self.expected, &self.line, &mut self.held, &mut self.done, note);
+        let fed = second::sink(AU4, &self.sink, &self.expected, &self.line, &mut self.held, &mut self.done, note);
         let (after, answer) = match fed {
             Ok(both) => both,
             Err(number) => {
-                self.note_refusal(number, note);
+                let lengths = [self.line.len(), self.held.len(), self.done.len()];
+                coverage::refused(number, &self.expected, lengths, note);
                 return format!("refused {number}\n");
             }
         };
@@ -529,15 +394,11 @@ impl Bench {
             Pointer::Alarm => ("alarm", "-".to_string()),
             Pointer::Lost => ("lost", "-".to_string()),
         };
-        note(match self.sink.pointer.state {
-            Pointer::Normal(_) => "sink.normal",
-            Pointer::Alarm => "sink.alarm",
-            Pointer::Lost => "sink.lost",
-        });
+        coverage::fed(self.sink.pointer.state, note);
         let ended = answer.ended.len();
         let _ = write!(text, "ok st={state} off={offset} held={} ended={ended}", self.sink.held);
         for (count, Ended { place, violations, returned }) in answer.ended.iter().enumerate() {
-            let container = place.container(&self.line, &self.done);
+            let container = place.container(AU4, &self.line, &self.done);
             let at = match place {
                 Place::Done => "D@0".to_string(),
                 Place::Unit(from) => format!("U@{from}"),
@@ -574,48 +435,12 @@ impl Bench {
         text
     }
 
-    /// The names of a refusal, and of the faults that it came before.
-    fn note_refusal(&self, number: u8, note: second::Note) {
-        let trace_wrong = self.expected.trace.iter().any(|c| *c < 0x20 || *c > 0x7E);
-        let line_wrong = self.line.len() != second::UNIT_LENGTH;
-        let held_wrong = self.held.len() != second::CONTAINER_LENGTH;
-        let done_wrong = self.done.len() != second::CONTAINER_LENGTH;
-        let buffers_wrong = held_wrong || done_wrong;
-        note(match number {
-            4 => "sink.refused-4",
-            5 => "sink.refused-5",
-            1 => "sink.refused-1",
-            _ => "sink.refused-3",
-        });
-        for (met, name) in [
-            (number == 4 && trace_wrong, "sink.refused-4-before-5"),
-            (number == 4 && line_wrong, "sink.refused-4-before-1"),
-            (number == 4 && buffers_wrong, "sink.refused-4-before-3"),
-            (number == 5 && line_wrong, "sink.refused-5-before-1"),
-            (number == 5 && buffers_wrong, "sink.refused-5-before-3"),
-            (number == 1 && buffers_wrong, "sink.refused-1-before-3"),
-            (number == 3 && !done_wrong, "sink.refused-3-held-alone"),
-            (number == 3 && !held_wrong, "sink.refused-3-done-alone"),
-        ] {
-            if met {
-                note(name);
-            }
-        }
-    }
-
-    fn payload(&self, ais: bool, note: second::Note) -> String {
-        note(match self.last {
-            None => "payload.of-none",
-            Some((_, Place::Done)) => "payload.of-done",
-            Some((_, Place::Unit(_))) => "payload.of-unit",
-        });
-        if ais {
-            note("payload.all-ones");
-        }
-        let none = vec![0x00; second::CONTAINER_LENGTH];
+    fn payload(&self, ais: bool, note: Note) -> String {
+        coverage::payload_asked(self.last.as_ref().map(|(_, place)| *place), ais, note);
+        let none = vec![0x00; AU4.container()];
         let container = self.last.as_ref().map_or(&none, |(bytes, _)| bytes);
-        let mut into = vec![0xEE; second::PAYLOAD_LENGTH];
-        match second::payload_call(container, ais, &mut into) {
+        let mut into = vec![0xEE; AU4.payload()];
+        match second::payload_call(AU4, container, ais, &mut into) {
             Ok(()) => format!("payload fnv={:08X}\n", fnv(&into)),
             Err(number) => format!("payload refused {number}\n"),
         }
@@ -626,41 +451,21 @@ fn places(refusal: &Refusal) -> String {
     refusal.places.iter().map(|place| format!(" {place}")).collect()
 }
 
-fn catalogue(bytes: &[u8], note: second::Note) -> String {
-    match second::catalogue_check(bytes) {
-        Ok(count) => {
-            note(match count {
-                0 => "catalogue.none",
-                512 => "catalogue.512",
-                _ => "catalogue.some",
-            });
-            format!("cat ok {count}\n")
-        }
-        Err(refusal) => {
-            note(match refusal.number {
-                9 => "catalogue.refused-9",
-                10 => "catalogue.refused-10",
-                11 => "catalogue.refused-11",
-                4 => "catalogue.refused-4",
-                5 => "catalogue.refused-5",
-                12 => "catalogue.refused-12",
-                _ => "catalogue.refused-13",
-            });
-            format!("cat refused {}{}\n", refusal.number, places(&refusal))
-        }
+fn catalogue(bytes: &[u8], note: Note) -> String {
+    let answer = second::catalogue_check(bytes);
+    coverage::checked(&answer, note);
+    match answer {
+        Ok(count) => format!("cat ok {count}\n"),
+        Err(refusal) => format!("cat refused {}{}\n", refusal.number, places(&refusal)),
     }
 }
 
-fn lookup(circuit: u32, bytes: &[u8], note: second::Note) -> String {
-    match second::lookup(bytes, circuit) {
-        Ok(record) => {
-            note("lookup.found");
-            format!("found {:02X} {} {}\n", record.label, hex(&record.trace), record.flags)
-        }
-        Err(refusal) => {
-            note(if refusal.number == 14 { "lookup.refused-14" } else { "lookup.catalogue-refused" });
-            format!("lookup refused {}{}\n", refusal.number, places(&refusal))
-        }
+fn lookup(circuit: u32, bytes: &[u8], note: Note) -> String {
+    let answer = second::lookup(bytes, circuit);
+    coverage::looked_up(answer.as_ref().err().map(|refusal| refusal.number), note);
+    match answer {
+        Ok(record) => format!("found {:02X} {} {}\n", record.label, hex(&record.trace), record.flags),
+        Err(refusal) => format!("lookup refused {}{}\n", refusal.number, places(&refusal)),
     }
 }
 
@@ -672,66 +477,5 @@ pub fn lines(script: &[u8]) -> impl Iterator<Item = &[u8]> {
 }
 
 #[cfg(test)]
-mod tests {
-    use super::*;
-
-    fn ran(script: &str) -> String {
-        let mut bench = Bench::new();
-        let mut counts = Counts::new();
-        let mut out = Vec::new();
-        for (index, line) in lines(script.as_bytes()).enumerate() {
-            bench.line(line, index + 1, &mut out, &mut |name| counts.note(name));
-        }
-        String::from_utf8(out).unwrap()
-    }
-
-    #[test]
-    fn fnv_1a_as_published() {
-        assert_eq!(fnv(b""), 0x811C_9DC5);
-        assert_eq!(fnv(b"a"), 0xE40C_292C);
-        assert_eq!(fnv(b"foobar"), 0xBF9C_F968);
-    }
-
-    #[test]
-    fn lines_not_understood() {
-        assert_eq!(ran("\n   \n# x\n"), "");
-        for line in [
-            " fresh", "fresh ", "fresh\r", "Fresh", "fresh 1", " # x", "src", "src -  ", "src x", "src  -", "\t",
-            "fill 00", "fill 0 00", "fill aa 00", "fill 00 00 00", "lens 1", "lens 4097 0", "lens 0000000001 0",
-            "lens -1 0", "len 4097", "len", "len 1 1", "xor 2358 00", "xor 0 0", "xor 1", "word 680", "word 68000",
-            "word 68g0", "word 6b00", "payload 2", "payload", "parity 0", "parity ", "cat  00", "cat 0g", "lookup",
-            "lookup x", "lookup 7 ", "lookup 1234567890", "rx 01 20 0", "tx 01 202020202020202020202020202020 256 0",
-            "tx 01 202020202020202020202020202020 0 2", "rx 01 202020202020202020202020202020 16", "sink 1", "show x",
-            "ones 1",
-        ] {
-            assert_eq!(ran(&format!("\n{line}")), "? 2\n", "{line:?}");
-        }
-        assert_eq!(ran("len 3\nword 6800\nxor 3 00\nxor 2 00\nshow"), "? 2\n? 3\nline 000000\n");
-        assert_eq!(ran("len 0\nshow\n"), "line \n");
-        assert_eq!(ran("parity\nparity 0F01\ncheck\nread\nread 6800\n"), "parity 00\nparity 0E\ncheck 0\nread 0\nread 6144\n");
-        assert_eq!(ran("cat\nlist\nlookup 7\n"), "cat ok 0\ncircuit label trace flags\nlookup refused 14\n");
-        assert_eq!(ran("lens 000004096 0\nsink\nfresh\nsink\n").lines().next(), Some("refused 3"));
-    }
-
-    #[test]
-    fn a_path_settles_and_fails() {
-        let mut script = String::from("rx 01 202020202020202020202020202020 15\n");
-        for _ in 0..80 {
-            script.push_str("src -\nsink\n");
-        }
-        for _ in 0..3 {
-            script.push_str("src -\nones\nsink\n");
-        }
-        let text = ran(&script);
-        let said: Vec<&str> = text.lines().filter(|line| !line.starts_with("unit")).collect();
-        assert!(said[0].starts_with("ok st=lost off=- held=0 ended=0 ssf=1 tsf=1 ais=1 rdi=1 d=0000 cause=0110000 settled=0 total=1 "));
-        assert!(said[2].starts_with("ok st=normal off=0 held=0 ended=1 c=U@9,"));
-        // The third whole message ends in the 64th unit.
-        assert!(said[62].contains(" d=0100 cause=0000100 settled=0 total=63 "));
-        assert!(said[63].contains(" d=0000 cause=0000000 settled=1 total=63 "));
-        assert!(said[79].contains(" settled=1 total=63 "));
-        // Two units of ones change no defect yet.
-        assert!(said[81].contains(" settled=1 total=63 "));
-        assert!(said[82].starts_with("ok st=alarm off=- held=0 ended=0 ssf=1 tsf=1 ais=1 rdi=1 d=0000 cause=1010000 settled=0 total=64 "));
-    }
-}
+#[path = "tests/bench.rs"]
+mod tests;

@@ -1,8 +1,11 @@
 //! The core of the second program once more, made as fast as plain Rust at
 //! release allows: the sink, the container source, the unit source, the payload
-//! call and parity. The rules, with the paper's words, stand in
-//! second/second.rs; here are none that are not there. For every call answers,
-//! states and buffers are the same, and the tests below ask both.
+//! call and parity. The rules, with the paper's words, stand in second/rules;
+//! here are none that are not there. For every call answers, states and buffers
+//! are the same, and the tests below ask both.
+//!
+//! It is the rival of the base and stays so: AU-4 alone, by the base rules. A
+//! later request changes it only where that costs nothing.
 //!
 //! States are changed in place, nothing is allocated, bytes go by
 //! `copy_from_slice`, and parity is taken 32 bytes at a time. A sink at rest
@@ -14,16 +17,21 @@
 
 use crate::second::{
     self, decrement_word, increment_word, inverted, plain_word, Asked, ContainerSource, Expected, Given, Pointer,
-    PointerReader, Sink, Taken, UnitSource, Watch, CONTAINER_LENGTH, PAYLOAD_LENGTH, ROWS, ROW_LENGTH, UNIT_LENGTH,
+    PointerReader, Sink, Taken, UnitSource, Watch, AU4, ROWS,
 };
+
+const ROW_LENGTH: usize = AU4.columns;
+const CONTAINER_LENGTH: usize = AU4.container();
+const PAYLOAD_LENGTH: usize = AU4.payload();
+const UNIT_LENGTH: usize = AU4.unit();
 
 type Container = [u8; CONTAINER_LENGTH];
 type Payload = [u8; PAYLOAD_LENGTH];
 type Unit = [u8; UNIT_LENGTH];
 
 const HEAD_LENGTH: usize = UNIT_LENGTH - CONTAINER_LENGTH;
-const STEP: usize = 3;
-const LAST_VALUE: u16 = 782;
+const STEP: usize = AU4.step;
+const LAST_VALUE: u16 = AU4.last_value();
 const LAST_PLACE: u8 = 15;
 const MOST_WITHOUT: u8 = 48;
 
@@ -889,7 +897,8 @@ fn feed(
 #[cfg(test)]
 mod tests {
     use super::*;
-    use crate::bench::{Counts, NAMES};
+    use crate::second::coverage::{Counts, Note, NAMES};
+    use crate::second::Word;
 
     /// Numbers without pattern.
     struct Dice(u64);
@@ -1185,10 +1194,10 @@ mod tests {
         fast: &mut Side,
         expected: &Expected,
         unit: &[u8],
-        note: second::Note,
+        note: Note,
     ) -> Result<second::Answer, u8> {
         let before = plain.clone();
-        let said = second::sink(&plain.s, expected, unit, &mut plain.held, &mut plain.done, note);
+        let said = second::sink(AU4, &plain.s, expected, unit, &mut plain.held, &mut plain.done, note);
         let said = said.map(|(after, answer)| {
             plain.s = after;
             answer
@@ -1268,7 +1277,7 @@ mod tests {
             let length = dice.length(CONTAINER_LENGTH);
             let mut container = dice.some_bytes(length);
             let mut fast_container = container.clone();
-            let said = second::container_source(plain_containers, given, &trace, &payload, &mut container);
+            let said = second::container_source(AU4, plain_containers, given, &trace, &payload, &mut container);
             let fast_said = container_source(&mut fast_containers, &given, &trace, &payload, &mut fast_container);
             assert_eq!(said.map(|_| ()), fast_said);
             assert_eq!(said.unwrap_or(plain_containers), fast_containers);
@@ -1287,7 +1296,7 @@ mod tests {
             let length = dice.length(UNIT_LENGTH);
             let mut unit = dice.some_bytes(length);
             let mut fast_unit = unit.clone();
-            let said = second::unit_source(plain_units, asked, &container, &next, &mut unit);
+            let said = second::unit_source(AU4, plain_units, asked, &container, &next, &mut unit);
             let fast_said = unit_source(&mut fast_units, asked, &container, &next, &mut fast_unit);
             assert_eq!(said.map(|(ended, _)| ended), fast_said);
             assert_eq!(said.map_or(plain_units, |(_, after)| after), fast_units);
@@ -1301,7 +1310,7 @@ mod tests {
             let mut into = dice.some_bytes(length);
             let mut fast_into = into.clone();
             let ais = dice.bool();
-            let said = second::payload_call(&container, ais, &mut into);
+            let said = second::payload_call(AU4, &container, ais, &mut into);
             assert_eq!(said, payload_call(&container, ais, &mut fast_into));
             assert!(into == fast_into);
             made[2] += u32::from(said.is_ok());
@@ -1339,7 +1348,7 @@ mod tests {
             }
             // What would end, with a column 1 that means something.
             let mut pointer = plain.s.pointer;
-            let taken = if well_formed(&plain.s) { pointer.read(word, &mut |_| {}) } else { Taken::Invalid };
+            let taken = if well_formed(&plain.s) { pointer.read(AU4, Word::of(word)) } else { Taken::Invalid };
             let first = match taken {
                 Taken::Increment => 12,
                 Taken::Decrement => 6,

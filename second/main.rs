@@ -65,7 +65,7 @@ fn bench(rules: bool) -> io::Result<()> {
     let most = bench::LONGEST_SCRIPT as u64 + 1;
     io::stdin().lock().take(most).read_to_end(&mut script)?;
     let mut output = io::BufWriter::new(io::stdout().lock());
-    let mut counts = bench::Counts::new();
+    let mut counts = second::coverage::Counts::new();
     if script.len() > bench::LONGEST_SCRIPT {
         writeln!(output, "script above {} bytes", bench::LONGEST_SCRIPT)?;
     } else {

@@ -12,7 +12,7 @@ As a module, each of these answers with a dictionary in the order of the files:
     theorems()           `crate/proofs/File.name` -> Place     those of crates/*/proofs/*.antt, but not of a function's own Proof.antt
     parts()              either, `.part` behind   -> Place     a record's fields and a data type's cases, in specs and proofs
     edits()              `crate/label`            -> Place     crates/*/must-fail/*.edit
-    cases()              `name`                   -> Place     the cases of second/bench.rs, each of which a random script must meet
+    cases()              `name`                   -> Place     the cases of second/coverage.rs, each of which a random script must meet
     contracts()          `crate::name`            -> the definitions, `crate/File.name`, that the contract of a library's function cites
     cited()              the same of the public functions alone
     asking()             the functions, `crate::name`, that have a requires
@@ -410,7 +410,7 @@ def edits():
 
 # ---- cases
 
-SECOND = ROOT / "second" / "bench.rs"
+SECOND = ROOT / "second" / "coverage.rs"
 
 
 @functools.cache

@@ -11,7 +11,7 @@ backticked name is one of
     crate::name                                 a function, constant, struct or enum of crates/CRATE/src     third cell
     crate/proofs/File.name                      a theorem of crates/CRATE/proofs/File.antt                   third cell
     crate/label                                 an edit, crates/CRATE/must-fail/label.edit                   fourth cell
-    case NAME                                   a case of second/bench.rs, which a random script must meet   fourth cell
+    case NAME                                   a case of second/coverage.rs that a random script must meet  fourth cell
 
 and is written in brackets, so that it is a link; the definitions of these links stand at the file's end. The one literal that may stand in backticks is
 a pointer word or a trace of four characters, each 0 to 9 or A to F. Checked is that

@@ -2,7 +2,7 @@
 //! calls with any number of faults at once, and long runs.
 
 use super::{hex, proved, second, Random, Tally};
-use second::{Asked, ContainerSource, Given, UnitSource};
+use second::{Asked, ContainerSource, Given, UnitSource, AU4};
 
 /// How often each answer of a call came, and how often with a fault that stands later in the order.
 struct Met {
@@ -136,7 +136,7 @@ fn given_faults(order: &[u8], f: &[bool]) -> Vec<u8> {
 #[allow(clippy::too_many_arguments)]
 fn one_container(t: &mut Tally, met: &mut Met, s: ContainerSource, g: Given, characters: &[u8; 15], payload: &[u8], before: &[u8], faults: &[u8]) -> (ContainerSource, Vec<u8>) {
     let mut want = before.to_vec();
-    let answer = second::container_source(s, g, characters, payload, &mut want);
+    let answer = second::container_source(AU4, s, g, characters, payload, &mut want);
     let answer = match answer {
         Ok(next) => (0, next),
         Err(number) => (number, s),
@@ -191,7 +191,7 @@ fn unit_calls(r: &mut Random, t: &mut Tally) {
 #[allow(clippy::too_many_arguments)]
 fn one_unit(t: &mut Tally, met: &mut Met, s: UnitSource, asked: Asked, current: &[u8], next: &[u8], before: &[u8], faults: &[u8]) -> (u8, UnitSource) {
     let mut want = before.to_vec();
-    let (number, ended, after) = match second::unit_source(s, asked, current, next, &mut want) {
+    let (number, ended, after) = match second::unit_source(AU4, s, asked, current, next, &mut want) {
         Ok((ended, after)) => (0, ended, after),
         Err(number) => (number, 0, s),
     };
@@ -215,7 +215,7 @@ fn payload_calls(r: &mut Random, t: &mut Tally) {
         let before = r.bytes(n);
         let ais = r.below(2) == 1;
         let mut want = before.clone();
-        let answer = second::payload_call(&container, ais, &mut want).err().unwrap_or(0);
+        let answer = second::payload_call(AU4, &container, ais, &mut want).err().unwrap_or(0);
         let mut got = before.clone();
         let said = proved::payload_call(&container, ais, &mut got);
         let of = || format!("container {} bytes, payload {} bytes, AIS {ais}", container.len(), before.len());

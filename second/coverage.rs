@@ -1,0 +1,698 @@
+//! Coverage: the names of the cases that a script can meet, how often each was,
+//! and the functions that tell which were. They look at what went into a rule
+//! and what came out of it; no rule depends on them.
+//!
+//! The bench is one of AU-4: the numbers in the names are its. What every unit
+//! goes through is inlined, so that it costs little where nobody is told.
+
+use super::rules::counts::{
+    LAST_PLACE, MOST_ALARM_WORDS, MOST_ALIKE_WORDS, MOST_ENABLED_WORDS, MOST_EQUAL, MOST_INVALID_WORDS, MOST_WITHOUT,
+};
+use super::rules::{
+    adjustment, inverted, Answer, Expected, Overhead, Place, Pointer, PointerReader, Refusal, Shape, Sink, Taken,
+    Watch, Word, AU4,
+};
+use std::collections::HashMap;
+use std::fmt::Write as _;
+
+/// Told the name of each case of a rule that is met, so that a test can ask
+/// whether all were.
+pub type Note<'a> = &'a mut dyn FnMut(&'static str);
+
+/// The name of each case that a script can meet.
+pub const NAMES: &[&str] = &[
+    // The word
+    "word.ndf-0000", "word.ndf-0001", "word.ndf-0010", "word.ndf-0011",
+    "word.ndf-0100", "word.ndf-0101", "word.ndf-0110", "word.ndf-0111",
+    "word.ndf-1000", "word.ndf-1001", "word.ndf-1010", "word.ndf-1011",
+    "word.ndf-1100", "word.ndf-1101", "word.ndf-1110", "word.ndf-1111",
+    "word.ss-00", "word.ss-01", "word.ss-10", "word.ss-11",
+    "run.begins", "run.grows", "run.stops-at-3", "run.ended-at-2",
+    "run.other-value-after-1", "run.other-value-after-2", "run.other-value-after-3",
+    "row.two-alarm-words-ended", "row.seven-new-data-ended", "row.seven-invalid-ended",
+    "wait.stops-at-3",
+    // Its rules
+    "1.fewer-than-three-in-normal", "1.fewer-than-three-in-alarm", "1.fewer-than-three-in-lost",
+    "1.to-alarm-from-normal", "1.to-alarm-from-alarm", "1.to-alarm-from-lost", "1.count-stops-at-3",
+    "2.same-offset", "2.other-offset", "2.from-alarm", "2.seventh", "2.eighth-to-lost",
+    "2.in-lost", "2.in-lost-count-stops-at-8",
+    "3.other-offset", "3.from-alarm", "3.from-lost",
+    "4.plain", "4.plain-other-ndf",
+    "4.increment", "4.increment-782-to-0", "4.decrement", "4.decrement-0-to-782",
+    "4.increment-exact", "4.increment-by-three", "4.increment-two-against", "4.increment-most",
+    "4.decrement-exact", "4.decrement-by-three", "4.decrement-two-against", "4.decrement-most",
+    "4.adjusted-by-a-value-out-of-range",
+    "5.in-alarm", "5.in-lost",
+    "6.ndf-neither", "6.ndf-neither-and-ss", "6.normal-and-ss",
+    "6.enabled-and-ss", "6.enabled-out-of-range", "6.enabled-and-ss-out-of-range",
+    "6.bits-too-few", "6.bits-three-of-each", "6.bits-and-out-of-range",
+    "6.out-of-range-in-alarm", "6.out-of-range-in-lost",
+    "6.increment-too-early-by-3", "6.increment-too-early-by-2", "6.increment-too-early-by-1",
+    "6.decrement-too-early-by-3", "6.decrement-too-early-by-2", "6.decrement-too-early-by-1",
+    "6.in-normal", "6.in-alarm", "6.in-lost", "6.in-lost-count-stops-at-8",
+    "6.eighth-to-lost-from-normal", "6.eighth-to-lost-from-alarm",
+    // The unit
+    "drop.new-data-nothing-held", "drop.new-data-held", "drop.found-nothing-held", "drop.found-held",
+    "drop.parity-forgotten",
+    "ended.none-by-increment", "ended.none-after-a-drop",
+    "ended.one-in-done", "ended.one-in-done-none-begun", "ended.one-in-done-by-increment",
+    "ended.one-in-done-by-decrement", "ended.one-in-done-by-alarm-word", "ended.one-in-done-by-invalid",
+    "ended.one-in-unit", "ended.one-in-unit-from-h3", "ended.one-in-unit-after-a-drop",
+    "ended.one-in-unit-by-alarm-or-invalid", "ended.two",
+    "offset.0", "offset.1", "offset.521", "offset.522", "offset.781", "offset.782", "offset.other",
+    "clears.held-count", "clears.parity", "clears.accepted-label", "clears.accepted-trace",
+    "clears.dUNEQ", "clears.dTIM", "clears.dPLM", "clears.dRDI", "clears.message-place",
+    "clears.message-run", "clears.count-to-48", "clears.label-run", "clears.run-of-00", "clears.run-of-remote",
+    // The container
+    "violations.no-last-parity",
+    "violations.0", "violations.1", "violations.2", "violations.3", "violations.4",
+    "violations.5", "violations.6", "violations.7", "violations.8",
+    "returned.0", "returned.1", "returned.2", "returned.3", "returned.4", "returned.5",
+    "returned.6", "returned.7", "returned.8", "returned.9-as-0", "returned.10-as-0",
+    "returned.11-as-0", "returned.12-as-0", "returned.13-as-0", "returned.14-as-0", "returned.15-as-0",
+    "label.run-begins", "label.run-of-1-to-3-ended", "label.run-of-4-ended", "label.run-of-5-ended",
+    "label.run-stops-at-5", "label.accepted-first", "label.accepted-again", "label.accepted-other",
+    "dPLM.set", "dPLM.cleared",
+    "dPLM.not-yet-set-without-a-container", "dPLM.not-yet-cleared-without-a-container",
+    "dUNEQ.set", "dUNEQ.cleared", "dUNEQ.not-set-by-four", "dUNEQ.not-cleared-by-four", "dUNEQ.run-stops-at-5",
+    "dRDI.set", "dRDI.cleared", "dRDI.not-set-by-four", "dRDI.not-cleared-by-four", "dRDI.run-stops-at-5",
+    "message.starts", "message.cut", "message.cut-at-15", "message.cut-ends-a-run",
+    "message.stray", "message.stray-ends-a-run", "message.wrong", "message.wrong-ends-a-run",
+    "message.good-first", "message.good-second", "message.good-third", "message.good-run-stops-at-3",
+    "message.good-other-after-1-or-2", "message.good-other-after-3",
+    "count.to-0", "count.47-to-0", "count.48-to-0", "count.stops-at-48",
+    "trace.accepted-first", "trace.accepted-again", "trace.accepted-other",
+    "dTIM.set-by-a-message", "dTIM.cleared", "dTIM.stays-by-a-message",
+    "dTIM.set-by-the-48th", "dTIM.stays-by-the-48th", "dTIM.set-by-one-after-48",
+    // The unit's end
+    "action.SSF", "action.none", "action.TSF-by-dUNEQ-alone", "action.TSF-by-dTIM-alone",
+    "action.TSF-by-both", "action.AIS-by-dPLM-alone", "action.REI",
+    "cause.none", "cause.cAIS", "cause.cLOP", "cause.cSSF", "cause.cUNEQ", "cause.cTIM", "cause.cRDI", "cause.cPLM",
+    "cause.cSSF-with-cAIS", "cause.cSSF-with-cLOP", "cause.cRDI-with-cPLM",
+    "cause.cAIS-alone", "cause.cLOP-alone", "cause.cSSF-alone", "cause.cRDI-alone", "cause.cPLM-alone",
+    "cause.cPLM-not-monitored", "cause.alarm-not-reported", "cause.SSF-not-reported", "cause.SSF-not-monitored",
+    "cause.dUNEQ-not-monitored", "cause.dTIM-not-monitored", "cause.dTIM-under-dUNEQ",
+    "cause.dRDI-under-dUNEQ", "cause.dRDI-under-dTIM", "cause.dRDI-not-monitored", "cause.dRDI-not-reported",
+    "cause.dPLM-under-dUNEQ", "cause.dPLM-under-dTIM",
+    "unit.settled", "unit.unsettled",
+    "unsettled.no-label-accepted", "unsettled.no-trace-accepted", "unsettled.by-dRDI-alone",
+    "unsettled.by-the-expected-trace-alone", "unsettled.by-the-expected-label-alone",
+    // Answers of the calls
+    "container.made", "container.refused-4", "container.refused-5", "container.refused-6",
+    "container.refused-second",
+    "unit.made", "unit.refused-7",
+    "sink.normal", "sink.alarm", "sink.lost",
+    "sink.refused-4", "sink.refused-5", "sink.refused-1", "sink.refused-3",
+    "sink.refused-4-before-5", "sink.refused-4-before-1", "sink.refused-4-before-3",
+    "sink.refused-5-before-1", "sink.refused-5-before-3", "sink.refused-1-before-3",
+    "sink.refused-3-held-alone", "sink.refused-3-done-alone",
+    "payload.of-none", "payload.of-done", "payload.of-unit", "payload.all-ones",
+    "catalogue.none", "catalogue.some", "catalogue.512",
+    "catalogue.refused-9", "catalogue.refused-10", "catalogue.refused-11", "catalogue.refused-4",
+    "catalogue.refused-5", "catalogue.refused-12", "catalogue.refused-13",
+    "lookup.found", "lookup.refused-14", "lookup.catalogue-refused",
+    "list.listed", "list.refused",
+    "parity.asked", "check.no", "check.yes", "read.asked", "read.not-two-bytes",
+    "script.not-understood", "script.comment", "script.blank",
+];
+
+/// How often each name was met.
+pub struct Counts(HashMap<&'static str, u64>);
+
+impl Counts {
+    pub fn new() -> Self {
+        Counts(NAMES.iter().map(|name| (*name, 0)).collect())
+    }
+
+    /// One more. Every name must stand in the list.
+    pub fn note(&mut self, name: &'static str) {
+        match self.0.get_mut(name) {
+            Some(count) => *count += 1,
+            None => panic!("{name} is not in the list of names"),
+        }
+    }
+
+    /// The names that were not met.
+    pub fn unmet(&self) -> Vec<&'static str> {
+        NAMES.iter().copied().filter(|name| self.0[name] == 0).collect()
+    }
+
+    /// One line `name count` for each.
+    pub fn text(&self) -> String {
+        let mut text = String::new();
+        for name in NAMES {
+            let _ = writeln!(text, "{name} {}", self.0[name]);
+        }
+        text
+    }
+}
+
+// ---------------------------------------------------------------------------
+// The word
+// ---------------------------------------------------------------------------
+
+const NDF_NAMES: [&str; 16] = [
+    "word.ndf-0000", "word.ndf-0001", "word.ndf-0010", "word.ndf-0011",
+    "word.ndf-0100", "word.ndf-0101", "word.ndf-0110", "word.ndf-0111",
+    "word.ndf-1000", "word.ndf-1001", "word.ndf-1010", "word.ndf-1011",
+    "word.ndf-1100", "word.ndf-1101", "word.ndf-1110", "word.ndf-1111",
+];
+const SS_NAMES: [&str; 4] = ["word.ss-00", "word.ss-01", "word.ss-10", "word.ss-11"];
+
+/// A word that was read.
+#[inline]
+pub fn word(shape: Shape, before: &PointerReader, word: Word, taken: Taken, after: &PointerReader, note: Note) {
+    note(NDF_NAMES[usize::from(word.ndf)]);
+    note(SS_NAMES[usize::from(word.ss)]);
+    run(shape, before, word, note);
+
+    if taken != Taken::AlarmWord && before.alarm_words == 2 {
+        note("row.two-alarm-words-ended");
+    }
+    if taken != Taken::NewData && before.enabled_words == 7 {
+        note("row.seven-new-data-ended");
+    }
+    if taken != Taken::Invalid && before.invalid_words == 7 {
+        note("row.seven-invalid-ended");
+    }
+
+    match taken {
+        Taken::AlarmWord => {
+            note(match (after.alarm_words >= 3, before.state) {
+                (true, Pointer::Normal(_)) => "1.to-alarm-from-normal",
+                (true, Pointer::Alarm) => "1.to-alarm-from-alarm",
+                (true, Pointer::Lost) => "1.to-alarm-from-lost",
+                (false, Pointer::Normal(_)) => "1.fewer-than-three-in-normal",
+                (false, Pointer::Alarm) => "1.fewer-than-three-in-alarm",
+                (false, Pointer::Lost) => "1.fewer-than-three-in-lost",
+            });
+            if before.alarm_words == MOST_ALARM_WORDS {
+                note("1.count-stops-at-3");
+            }
+        }
+        Taken::NewData => {
+            note(match before.state {
+                Pointer::Lost if before.enabled_words == MOST_ENABLED_WORDS => "2.in-lost-count-stops-at-8",
+                Pointer::Lost => "2.in-lost",
+                _ if after.state == Pointer::Lost => "2.eighth-to-lost",
+                Pointer::Normal(offset) if offset == word.value => "2.same-offset",
+                Pointer::Normal(_) => "2.other-offset",
+                Pointer::Alarm => "2.from-alarm",
+            });
+            if before.state != Pointer::Lost && after.enabled_words == 7 {
+                note("2.seventh");
+            }
+        }
+        Taken::Found => note(match before.state {
+            Pointer::Normal(_) => "3.other-offset",
+            Pointer::Alarm => "3.from-alarm",
+            Pointer::Lost => "3.from-lost",
+        }),
+        Taken::Plain => note(if word.ndf == 0b0110 { "4.plain" } else { "4.plain-other-ndf" }),
+        Taken::Increment | Taken::Decrement => {
+            if let Pointer::Normal(offset) = before.state {
+                adjusted(shape, offset, word, taken == Taken::Increment, note);
+            }
+        }
+        Taken::Waiting => note(if before.state == Pointer::Alarm { "5.in-alarm" } else { "5.in-lost" }),
+        Taken::Invalid => {
+            note(why_invalid(shape, before, word));
+            note(match (before.state, after.state) {
+                (Pointer::Lost, _) if before.invalid_words == MOST_INVALID_WORDS => "6.in-lost-count-stops-at-8",
+                (Pointer::Lost, _) => "6.in-lost",
+                (Pointer::Normal(_), Pointer::Lost) => "6.eighth-to-lost-from-normal",
+                (Pointer::Alarm, Pointer::Lost) => "6.eighth-to-lost-from-alarm",
+                (Pointer::Normal(_), _) => "6.in-normal",
+                (Pointer::Alarm, _) => "6.in-alarm",
+            });
+        }
+    }
+    // It stays where it is or goes up, unless it begins anew.
+    if after.wait > 0 && after.wait == before.wait {
+        note("wait.stops-at-3");
+    }
+}
+
+/// The run of alike words.
+#[inline]
+fn run(shape: Shape, before: &PointerReader, word: Word, note: Note) {
+    if !(word.is_normal() && word.in_range(shape)) {
+        if before.run == 2 {
+            note("run.ended-at-2");
+        }
+    } else if before.run > 0 && before.run_value == word.value {
+        note(if before.run == MOST_ALIKE_WORDS { "run.stops-at-3" } else { "run.grows" });
+    } else {
+        note(match before.run {
+            0 => "run.begins",
+            1 => "run.other-value-after-1",
+            2 => "run.other-value-after-2",
+            _ => "run.other-value-after-3",
+        });
+    }
+}
+
+/// An increment, or else a decrement, from this offset.
+#[inline]
+fn adjusted(shape: Shape, offset: u16, word: Word, up: bool, note: Note) {
+    let (i, d) = inverted(word.value, offset);
+    note(match (up, offset) {
+        (true, _) if offset == shape.last_value() => "4.increment-782-to-0",
+        (true, _) => "4.increment",
+        (false, 0) => "4.decrement-0-to-782",
+        (false, _) => "4.decrement",
+    });
+    note(match (up, i, d) {
+        (true, 5, 0) => "4.increment-exact",
+        (true, 3, _) => "4.increment-by-three",
+        (true, _, 2) => "4.increment-two-against",
+        (true, _, _) => "4.increment-most",
+        (false, 0, 5) => "4.decrement-exact",
+        (false, _, 3) => "4.decrement-by-three",
+        (false, 2, _) => "4.decrement-two-against",
+        (false, _, _) => "4.decrement-most",
+    });
+    if !word.in_range(shape) {
+        note("4.adjusted-by-a-value-out-of-range");
+    }
+}
+
+/// The reason why a word is invalid.
+fn why_invalid(shape: Shape, before: &PointerReader, word: Word) -> &'static str {
+    match (word.kind, word.ss) {
+        (0, 0b10) => "6.ndf-neither",
+        (0, _) => "6.ndf-neither-and-ss",
+        (1, 0b10) => match before.state {
+            Pointer::Normal(offset) => match (adjustment(word.value, offset), before.wait) {
+                (Some(Taken::Increment), 0) => "6.increment-too-early-by-3",
+                (Some(Taken::Increment), 1) => "6.increment-too-early-by-2",
+                (Some(Taken::Increment), _) => "6.increment-too-early-by-1",
+                (Some(_), 0) => "6.decrement-too-early-by-3",
+                (Some(_), 1) => "6.decrement-too-early-by-2",
+                (Some(_), _) => "6.decrement-too-early-by-1",
+                (None, _) if !word.in_range(shape) => "6.bits-and-out-of-range",
+                (None, _) if inverted(word.value, offset).0 >= 3 => "6.bits-three-of-each",
+                (None, _) => "6.bits-too-few",
+            },
+            Pointer::Alarm => "6.out-of-range-in-alarm",
+            Pointer::Lost => "6.out-of-range-in-lost",
+        },
+        (1, _) => "6.normal-and-ss",
+        (_, 0b10) => "6.enabled-out-of-range",
+        (_, _) if word.in_range(shape) => "6.enabled-and-ss",
+        (_, _) => "6.enabled-and-ss-out-of-range",
+    }
+}
+
+// ---------------------------------------------------------------------------
+// The unit
+// ---------------------------------------------------------------------------
+
+/// A unit that ended in alarm or lost, fed in this state.
+pub fn cleared(before: &Sink, note: Note) {
+    let under_way = |watch: Watch| watch.run > 0 && watch.run < MOST_EQUAL && watch.last;
+    each(
+        [
+            (before.held > 0, "clears.held-count"),
+            (before.parity.is_some(), "clears.parity"),
+            (before.accepted_label.is_some(), "clears.accepted-label"),
+            (before.accepted_trace.is_some(), "clears.accepted-trace"),
+            (before.uneq.stands, "clears.dUNEQ"),
+            (before.tim, "clears.dTIM"),
+            (before.plm, "clears.dPLM"),
+            (before.remote.stands, "clears.dRDI"),
+            (before.place > 0, "clears.message-place"),
+            (before.message_run > 0, "clears.message-run"),
+            (before.without < MOST_WITHOUT, "clears.count-to-48"),
+            (before.label_run > 0 && before.label_run < MOST_EQUAL, "clears.label-run"),
+            (under_way(before.uneq), "clears.run-of-00"),
+            (under_way(before.remote), "clears.run-of-remote"),
+        ],
+        note,
+    );
+}
+
+/// A unit out of which containers were cut: the state in which it was fed,
+/// where they stand, and the state then.
+#[inline]
+pub fn cut(before: &Sink, taken: Taken, places: &[Place], after: &Sink, note: Note) {
+    if taken == Taken::NewData || taken == Taken::Found {
+        note(match (taken, before.held) {
+            (Taken::NewData, 0) => "drop.new-data-nothing-held",
+            (Taken::NewData, _) => "drop.new-data-held",
+            (_, 0) => "drop.found-nothing-held",
+            (_, _) => "drop.found-held",
+        });
+        if before.parity.is_some() {
+            note("drop.parity-forgotten");
+        }
+    }
+    note(match (places, taken) {
+        ([], Taken::Increment) => "ended.none-by-increment",
+        ([], _) => "ended.none-after-a-drop",
+        ([Place::Done], Taken::Increment) if after.held == 0 => "ended.one-in-done-none-begun",
+        ([Place::Done], Taken::Increment) => "ended.one-in-done-by-increment",
+        ([Place::Done], Taken::Decrement) => "ended.one-in-done-by-decrement",
+        ([Place::Done], Taken::AlarmWord) => "ended.one-in-done-by-alarm-word",
+        ([Place::Done], Taken::Invalid) => "ended.one-in-done-by-invalid",
+        ([Place::Done], _) => "ended.one-in-done",
+        ([Place::Unit(_)], Taken::Decrement) => "ended.one-in-unit-from-h3",
+        ([Place::Unit(_)], Taken::NewData | Taken::Found) => "ended.one-in-unit-after-a-drop",
+        ([Place::Unit(_)], Taken::AlarmWord | Taken::Invalid) => "ended.one-in-unit-by-alarm-or-invalid",
+        ([Place::Unit(_)], _) => "ended.one-in-unit",
+        _ => "ended.two",
+    });
+    if let Pointer::Normal(offset) = after.pointer.state {
+        note(match offset {
+            0 => "offset.0",
+            1 => "offset.1",
+            521 => "offset.521",
+            522 => "offset.522",
+            781 => "offset.781",
+            782 => "offset.782",
+            _ => "offset.other",
+        });
+    }
+}
+
+// ---------------------------------------------------------------------------
+// The container
+// ---------------------------------------------------------------------------
+
+const VIOLATION_NAMES: [&str; 9] = [
+    "violations.0", "violations.1", "violations.2", "violations.3", "violations.4",
+    "violations.5", "violations.6", "violations.7", "violations.8",
+];
+const RETURNED_NAMES: [&str; 16] = [
+    "returned.0", "returned.1", "returned.2", "returned.3", "returned.4", "returned.5",
+    "returned.6", "returned.7", "returned.8", "returned.9-as-0", "returned.10-as-0",
+    "returned.11-as-0", "returned.12-as-0", "returned.13-as-0", "returned.14-as-0", "returned.15-as-0",
+];
+
+/// A container that was examined: the state before it and after it.
+#[inline]
+pub fn container(shape: Shape, before: &Sink, container: &[u8], after: &Sink, note: Note) {
+    let overhead = Overhead::of(shape, container);
+    note(match before.parity {
+        Some(parity) => VIOLATION_NAMES[(overhead.b3 ^ parity).count_ones() as usize],
+        None => "violations.no-last-parity",
+    });
+    label(before, after, note);
+    watch(&before.uneq, &after.uneq, &UNEQ_NAMES, note);
+    watch(&before.remote, &after.remote, &REMOTE_NAMES, note);
+    message(before, overhead.j1, after, note);
+    note(RETURNED_NAMES[usize::from(overhead.returned_bits())]);
+}
+
+#[inline]
+fn label(before: &Sink, after: &Sink, note: Note) {
+    let label = after.label;
+    if before.label_run > 0 && before.label == label {
+        if before.label_run == MOST_EQUAL {
+            note("label.run-stops-at-5");
+        }
+    } else {
+        note(match before.label_run {
+            0 => "label.run-begins",
+            1..=3 => "label.run-of-1-to-3-ended",
+            4 => "label.run-of-4-ended",
+            _ => "label.run-of-5-ended",
+        });
+    }
+    if after.label_run == MOST_EQUAL {
+        note(match before.accepted_label {
+            None => "label.accepted-first",
+            Some(accepted) if accepted == label => "label.accepted-again",
+            Some(_) => "label.accepted-other",
+        });
+    }
+    match (before.plm, after.plm) {
+        (false, true) => note("dPLM.set"),
+        (true, false) => note("dPLM.cleared"),
+        _ => {}
+    }
+}
+
+/// A defect set by five and cleared by five: set, cleared, not set by four, not
+/// cleared by four, and its run at its stop.
+type WatchNames = [&'static str; 5];
+const UNEQ_NAMES: WatchNames = [
+    "dUNEQ.set", "dUNEQ.cleared", "dUNEQ.not-set-by-four", "dUNEQ.not-cleared-by-four", "dUNEQ.run-stops-at-5",
+];
+const REMOTE_NAMES: WatchNames = [
+    "dRDI.set", "dRDI.cleared", "dRDI.not-set-by-four", "dRDI.not-cleared-by-four", "dRDI.run-stops-at-5",
+];
+
+#[inline]
+fn watch(before: &Watch, after: &Watch, names: &WatchNames, note: Note) {
+    let [set, cleared, not_set, not_cleared, stops] = *names;
+    match (before.stands, after.stands) {
+        (false, true) => note(set),
+        (true, false) => note(cleared),
+        _ => {}
+    }
+    if before.run == 4 && after.run == 1 {
+        match (before.stands, before.last) {
+            (false, true) => note(not_set),
+            (true, false) => note(not_cleared),
+            _ => {}
+        }
+    }
+    if before.run == MOST_EQUAL && after.run == MOST_EQUAL {
+        note(stops);
+    }
+}
+
+/// The trace: the byte in its message, then what a good one does, or the
+/// container without one.
+#[inline]
+fn message(before: &Sink, j1: u8, after: &Sink, note: Note) {
+    // Only a good message puts the count to 0.
+    let good = after.without == 0;
+    let ends_a_run = before.message_run > 0;
+    if j1 & 0x80 != 0 {
+        note(match before.place {
+            0 => "message.starts",
+            _ if ends_a_run => "message.cut-ends-a-run",
+            LAST_PLACE => "message.cut-at-15",
+            _ => "message.cut",
+        });
+    } else if before.place == 0 {
+        note(if ends_a_run { "message.stray-ends-a-run" } else { "message.stray" });
+    } else if before.place == LAST_PLACE && !good {
+        note(if ends_a_run { "message.wrong-ends-a-run" } else { "message.wrong" });
+    }
+    if good {
+        good_message(before, after, note);
+    } else if after.without == MOST_WITHOUT {
+        note(match (before.without < MOST_WITHOUT, before.tim) {
+            (true, false) => "dTIM.set-by-the-48th",
+            (true, true) => "dTIM.stays-by-the-48th",
+            (false, false) => "dTIM.set-by-one-after-48",
+            (false, true) => "count.stops-at-48",
+        });
+    }
+}
+
+fn good_message(before: &Sink, after: &Sink, note: Note) {
+    let equal = before.characters == after.characters;
+    note(match before.message_run {
+        0 => "message.good-first",
+        1 if equal => "message.good-second",
+        2 if equal => "message.good-third",
+        _ if equal => "message.good-run-stops-at-3",
+        1 | 2 => "message.good-other-after-1-or-2",
+        _ => "message.good-other-after-3",
+    });
+    note(match before.without {
+        MOST_WITHOUT => "count.48-to-0",
+        47 => "count.47-to-0",
+        _ => "count.to-0",
+    });
+    // Accepted: the run has come to its stop.
+    if after.message_run >= 3 {
+        note(match before.accepted_trace {
+            None => "trace.accepted-first",
+            Some(accepted) if accepted == after.characters => "trace.accepted-again",
+            Some(_) => "trace.accepted-other",
+        });
+        match (before.tim, after.tim) {
+            (false, true) => note("dTIM.set-by-a-message"),
+            (true, false) => note("dTIM.cleared"),
+            (true, true) => note("dTIM.stays-by-a-message"),
+            (false, false) => {}
+        }
+    }
+}
+
+// ---------------------------------------------------------------------------
+// The unit's end
+// ---------------------------------------------------------------------------
+
+/// The state at a unit's end, and what is answered.
+#[inline]
+pub fn end(s: &Sink, expected: &Expected, answer: &Answer, note: Note) {
+    let Answer { ssf, tsf, ais, settled, causes, .. } = *answer;
+    let [uneq, tim, plm, remote] = answer.defects;
+    let [c_ais, c_lop, c_ssf, c_uneq, c_tim, c_rdi, c_plm] = causes;
+    let Expected { monitored, rdi_reported, ssf_reported, ais_reported, .. } = *expected;
+    let quiet = !ssf && !ais && !remote;
+    let other_label = s.accepted_label.is_some() && s.accepted_label != Some(expected.label);
+    let other_trace = s.accepted_trace.is_some() && s.accepted_trace != Some(expected.trace);
+    // The expected label was changed since the last container.
+    let stale = s.accepted_label.is_some() && other_label != plm;
+    each(
+        [
+            (ssf, "action.SSF"),
+            (!tsf && !ais, "action.none"),
+            (uneq && !tim, "action.TSF-by-dUNEQ-alone"),
+            (tim && !uneq, "action.TSF-by-dTIM-alone"),
+            (tim && uneq, "action.TSF-by-both"),
+            (plm && !tsf, "action.AIS-by-dPLM-alone"),
+            (answer.ended.iter().any(|one| one.violations > 0), "action.REI"),
+            (!causes.contains(&true), "cause.none"),
+            (c_ais, "cause.cAIS"),
+            (c_lop, "cause.cLOP"),
+            (c_ssf, "cause.cSSF"),
+            (c_uneq, "cause.cUNEQ"),
+            (c_tim, "cause.cTIM"),
+            (c_rdi, "cause.cRDI"),
+            (c_plm, "cause.cPLM"),
+            (c_ssf && c_ais, "cause.cSSF-with-cAIS"),
+            (c_ssf && c_lop, "cause.cSSF-with-cLOP"),
+            (c_rdi && c_plm, "cause.cRDI-with-cPLM"),
+            (c_ais && !c_ssf, "cause.cAIS-alone"),
+            (c_lop && !c_ssf, "cause.cLOP-alone"),
+            (c_ssf && !c_ais && !c_lop, "cause.cSSF-alone"),
+            (c_rdi && !c_plm, "cause.cRDI-alone"),
+            (c_plm && !c_rdi, "cause.cPLM-alone"),
+            (c_plm && !monitored, "cause.cPLM-not-monitored"),
+            (s.pointer.state == Pointer::Alarm && !ais_reported, "cause.alarm-not-reported"),
+            (ssf && monitored && !ssf_reported, "cause.SSF-not-reported"),
+            (ssf && !monitored && ssf_reported, "cause.SSF-not-monitored"),
+            (uneq && !monitored, "cause.dUNEQ-not-monitored"),
+            (tim && !uneq && !monitored, "cause.dTIM-not-monitored"),
+            (tim && uneq && monitored, "cause.dTIM-under-dUNEQ"),
+            (remote && uneq && !tim && monitored && rdi_reported, "cause.dRDI-under-dUNEQ"),
+            (remote && tim && !uneq && monitored && rdi_reported, "cause.dRDI-under-dTIM"),
+            (remote && !tsf && !monitored && rdi_reported, "cause.dRDI-not-monitored"),
+            (remote && !tsf && monitored && !rdi_reported, "cause.dRDI-not-reported"),
+            (plm && uneq && !tim, "cause.dPLM-under-dUNEQ"),
+            (plm && tim && !uneq, "cause.dPLM-under-dTIM"),
+            (settled, "unit.settled"),
+            (!settled, "unit.unsettled"),
+            (quiet && s.accepted_label.is_none(), "unsettled.no-label-accepted"),
+            (quiet && s.accepted_trace.is_none(), "unsettled.no-trace-accepted"),
+            (!ssf && !ais && remote, "unsettled.by-dRDI-alone"),
+            (quiet && other_trace, "unsettled.by-the-expected-trace-alone"),
+            (quiet && other_label, "unsettled.by-the-expected-label-alone"),
+            (stale && !plm, "dPLM.not-yet-set-without-a-container"),
+            (stale && plm, "dPLM.not-yet-cleared-without-a-container"),
+        ],
+        note,
+    );
+}
+
+/// The names of those that were met.
+#[inline]
+fn each<const COUNT: usize>(cases: [(bool, &'static str); COUNT], note: Note) {
+    for (met, name) in cases {
+        if met {
+            note(name);
+        }
+    }
+}
+
+// ---------------------------------------------------------------------------
+// Answers of the bench's calls
+// ---------------------------------------------------------------------------
+
+/// A container that the source was asked for, with so many in the queue.
+pub fn container_asked(refused: Option<u8>, queued: usize, note: Note) {
+    note(match refused {
+        None => "container.made",
+        Some(4) => "container.refused-4",
+        Some(5) => "container.refused-5",
+        Some(_) => "container.refused-6",
+    });
+    if refused.is_some() && queued == 1 {
+        note("container.refused-second");
+    }
+}
+
+/// The state in which a unit that was not refused left the sink.
+pub fn fed(state: Pointer, note: Note) {
+    note(match state {
+        Pointer::Normal(_) => "sink.normal",
+        Pointer::Alarm => "sink.alarm",
+        Pointer::Lost => "sink.lost",
+    });
+}
+
+/// The sink's refusal, and the faults that it came before: of the settings, and
+/// of the lengths of unit, held and done buffer.
+pub fn refused(number: u8, expected: &Expected, [unit, held, done]: [usize; 3], note: Note) {
+    let trace_wrong = expected.trace.iter().any(|c| *c < 0x20 || *c > 0x7E);
+    let unit_wrong = unit != AU4.unit();
+    let held_wrong = held != AU4.container();
+    let done_wrong = done != AU4.container();
+    let buffers_wrong = held_wrong || done_wrong;
+    note(match number {
+        4 => "sink.refused-4",
+        5 => "sink.refused-5",
+        1 => "sink.refused-1",
+        _ => "sink.refused-3",
+    });
+    each(
+        [
+            (number == 4 && trace_wrong, "sink.refused-4-before-5"),
+            (number == 4 && unit_wrong, "sink.refused-4-before-1"),
+            (number == 4 && buffers_wrong, "sink.refused-4-before-3"),
+            (number == 5 && unit_wrong, "sink.refused-5-before-1"),
+            (number == 5 && buffers_wrong, "sink.refused-5-before-3"),
+            (number == 1 && buffers_wrong, "sink.refused-1-before-3"),
+            (number == 3 && !done_wrong, "sink.refused-3-held-alone"),
+            (number == 3 && !held_wrong, "sink.refused-3-done-alone"),
+        ],
+        note,
+    );
+}
+
+/// The payload call, of the container that stood there.
+pub fn payload_asked(place: Option<Place>, ais: bool, note: Note) {
+    note(match place {
+        None => "payload.of-none",
+        Some(Place::Done) => "payload.of-done",
+        Some(Place::Unit(_)) => "payload.of-unit",
+    });
+    if ais {
+        note("payload.all-ones");
+    }
+}
+
+/// The check of a catalogue.
+pub fn checked(answer: &Result<usize, Refusal>, note: Note) {
+    note(match answer {
+        Ok(0) => "catalogue.none",
+        Ok(512) => "catalogue.512",
+        Ok(_) => "catalogue.some",
+        Err(refusal) => match refusal.number {
+            9 => "catalogue.refused-9",
+            10 => "catalogue.refused-10",
+            11 => "catalogue.refused-11",
+            4 => "catalogue.refused-4",
+            5 => "catalogue.refused-5",
+            12 => "catalogue.refused-12",
+            _ => "catalogue.refused-13",
+        },
+    });
+}
+
+/// A lookup, and the number of its refusal.
+pub fn looked_up(refused: Option<u8>, note: Note) {
+    note(match refused {
+        None => "lookup.found",
+        Some(14) => "lookup.refused-14",
+        Some(_) => "lookup.catalogue-refused",
+    });
+}

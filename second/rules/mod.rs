@@ -1,0 +1,21 @@
+//! The rules, each subject in a file of its own. The words in quotation marks
+//! in the comments are the paper's.
+
+mod catalogue;
+mod container;
+pub(super) mod counts;
+mod cut;
+mod monitor;
+mod parity;
+mod pointer;
+mod shape;
+mod sink;
+mod trace;
+mod unit;
+mod word;
+
+// A program that takes these as a module need not use all of them.
+#[allow(unused_imports)]
+pub use self::{
+    catalogue::*, container::*, cut::*, monitor::*, parity::*, pointer::*, shape::*, sink::*, trace::*, unit::*, word::*,
+};

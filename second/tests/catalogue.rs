@@ -1,0 +1,266 @@
+//! The catalogue, its lookup and its listing; and that every input is answered.
+
+use super::*;
+
+fn record(circuit: u16, label: u8, trace: &[u8], flags: u8) -> Vec<u8> {
+    let mut bytes = vec![0x5A, 0x4D];
+    bytes.extend_from_slice(&circuit.to_be_bytes());
+    bytes.push(label);
+    bytes.extend_from_slice(&padded(trace));
+    bytes.push(flags);
+    bytes
+}
+
+/// Good records with circuit numbers from 1 and a trace each.
+fn good(count: usize) -> Vec<u8> {
+    let mut bytes = Vec::new();
+    for number in 1..=count {
+        bytes.extend(record(
+            number as u16,
+            0x12,
+            format!("T{number}").as_bytes(),
+            0x0F,
+        ));
+    }
+    bytes
+}
+
+fn refused(number: u8, places: &[usize]) -> Refusal {
+    Refusal {
+        number,
+        places: places.to_vec(),
+    }
+}
+
+#[test]
+fn the_example_of_the_listing() {
+    let mut bytes = vec![0x5A, 0x4D, 0x00, 0x07, 0x12];
+    bytes.extend_from_slice(b"03E5");
+    bytes.extend_from_slice(&[b' '; 11]);
+    bytes.push(0x0F);
+    assert_eq!(
+        listing(&bytes),
+        b"circuit label trace flags\n7 12 [03E5           ] 15\n"
+    );
+    assert_eq!(catalogue_check(&bytes), Ok(1));
+    assert_eq!(
+        lookup(&bytes, 7),
+        Ok(Record {
+            circuit: 7,
+            label: 0x12,
+            trace: padded(b"03E5"),
+            flags: 15
+        })
+    );
+}
+
+#[test]
+fn an_empty_file_is_a_good_catalogue_of_none() {
+    assert_eq!(catalogue_check(&[]), Ok(0));
+    assert_eq!(listing(&[]), b"circuit label trace flags\n");
+    assert_eq!(lookup(&[], 1), Err(refused(14, &[])));
+}
+
+#[test]
+fn lengths() {
+    assert_eq!(LONGEST_CATALOGUE, 10_752);
+    assert_eq!(catalogue_check(&good(512)), Ok(512));
+    assert_eq!(catalogue_check(&good(513)), Err(refused(9, &[])));
+    for length in 1..=2 * RECORD_LENGTH {
+        let bytes = &good(2)[..length];
+        if length % RECORD_LENGTH == 0 {
+            assert_eq!(catalogue_check(bytes), Ok(length / RECORD_LENGTH));
+        } else {
+            assert_eq!(catalogue_check(bytes), Err(refused(9, &[])));
+        }
+    }
+}
+
+#[test]
+fn length_comes_before_all_else() {
+    assert_eq!(catalogue_check(&[0x00; 22]), Err(refused(9, &[])));
+    assert_eq!(listing(&[0x00; 22]), b"9\n");
+    assert_eq!(lookup(&[0x00; 22], 0), Err(refused(9, &[])));
+    assert_eq!(catalogue_check(&[0x00; 513 * 21]), Err(refused(9, &[])));
+}
+
+#[test]
+fn bounds_of_each_field() {
+    let one = |circuit, label, trace: &[u8], flags| {
+        catalogue_check(&record(circuit, label, trace, flags))
+    };
+    assert_eq!(one(0, 0x12, b"A", 0), Err(refused(11, &[1])));
+    assert_eq!(one(1, 0x12, b"A", 0), Ok(1));
+    assert_eq!(one(9999, 0x12, b"A", 0), Ok(1));
+    assert_eq!(one(10000, 0x12, b"A", 0), Err(refused(11, &[1])));
+    assert_eq!(one(1, 0x00, b"A", 0), Err(refused(4, &[1])));
+    assert_eq!(one(1, 0x01, b"A", 0), Ok(1));
+    assert_eq!(one(1, 0xFE, b"A", 0), Ok(1));
+    assert_eq!(one(1, 0xFF, b"A", 0), Err(refused(4, &[1])));
+    assert_eq!(one(1, 0x12, b"\x1F", 0), Err(refused(5, &[1])));
+    assert_eq!(one(1, 0x12, b"\x20", 0), Ok(1));
+    assert_eq!(one(1, 0x12, b"\x7E", 0), Ok(1));
+    assert_eq!(one(1, 0x12, b"\x7F", 0), Err(refused(5, &[1])));
+    assert_eq!(one(1, 0x12, b"ABCDEFGHIJKLMN\x80", 0), Err(refused(5, &[1])));
+    assert_eq!(one(1, 0x12, b"A", 15), Ok(1));
+    assert_eq!(one(1, 0x12, b"A", 16), Err(refused(12, &[1])));
+    assert_eq!(one(1, 0x12, b"A", 255), Err(refused(12, &[1])));
+}
+
+#[test]
+fn either_byte_of_the_mark_may_be_wrong() {
+    for place in 0..2 {
+        for bit in 0..8 {
+            let mut bytes = good(2);
+            bytes[RECORD_LENGTH + place] ^= 1 << bit;
+            assert_eq!(catalogue_check(&bytes), Err(refused(10, &[2])));
+        }
+    }
+}
+
+#[test]
+fn faults_of_one_record_come_in_the_order_10_11_4_5_12() {
+    // The second of three records has every fault; they are put right one
+    // by one in the order in which they are named. Before and after, two
+    // records share a trace.
+    let mut bytes = record(1, 0x12, b"A", 0);
+    bytes.extend([0x4D, 0x5A, 0x27, 0x10, 0xFF]);
+    bytes.extend([0x7F; 15]);
+    bytes.push(0x10);
+    bytes.extend(record(3, 0x12, b"A", 0));
+    let at = RECORD_LENGTH;
+
+    assert_eq!(catalogue_check(&bytes), Err(refused(10, &[2])));
+    assert_eq!(listing(&bytes), b"10 2\n");
+    bytes[at] = 0x5A;
+    assert_eq!(catalogue_check(&bytes), Err(refused(10, &[2])));
+    bytes[at + 1] = 0x4D;
+    assert_eq!(catalogue_check(&bytes), Err(refused(11, &[2])));
+    bytes[at + 3] = 0x0F;
+    assert_eq!(catalogue_check(&bytes), Err(refused(4, &[2])));
+    bytes[at + 4] = 0xFE;
+    assert_eq!(catalogue_check(&bytes), Err(refused(5, &[2])));
+    bytes[at + 5..at + 20].fill(0x7E);
+    assert_eq!(catalogue_check(&bytes), Err(refused(12, &[2])));
+    bytes[at + 20] = 0x0F;
+    assert_eq!(catalogue_check(&bytes), Err(refused(13, &[3, 1])));
+    assert_eq!(listing(&bytes), b"13 3 1\n");
+    bytes[2 * at + 5] = b'B';
+    assert_eq!(catalogue_check(&bytes), Ok(3));
+}
+
+#[test]
+fn an_earlier_record_comes_before_a_later_one() {
+    // Flags wrong in record 2, mark wrong in record 3.
+    let mut bytes = good(3);
+    bytes[RECORD_LENGTH + 20] = 0xFF;
+    bytes[2 * RECORD_LENGTH] = 0x00;
+    assert_eq!(catalogue_check(&bytes), Err(refused(12, &[2])));
+}
+
+#[test]
+fn the_last_place() {
+    let mut bytes = good(512);
+    bytes[511 * RECORD_LENGTH + 20] = 16;
+    assert_eq!(listing(&bytes), b"12 512\n");
+}
+
+#[test]
+fn refusal_13_names_the_earliest_later_with_the_first() {
+    let of = |traces: &[&[u8]]| {
+        let mut bytes = Vec::new();
+        for (index, trace) in traces.iter().enumerate() {
+            bytes.extend(record(index as u16 + 1, 0x12, trace, 0));
+        }
+        catalogue_check(&bytes)
+    };
+    // 4 repeats 1, but 3 repeats 2 earlier.
+    assert_eq!(of(&[b"A", b"B", b"B", b"A"]), Err(refused(13, &[3, 2])));
+    // 2 repeats 1 before 3 does.
+    assert_eq!(of(&[b"A", b"A", b"A"]), Err(refused(13, &[2, 1])));
+    assert_eq!(of(&[b"A", b"B", b"C", b"B", b"A"]), Err(refused(13, &[4, 2])));
+    // Spaces are characters like others.
+    assert_eq!(of(&[b"A", b" A", b"  A", b"a", b""]), Ok(5));
+    assert_eq!(of(&[b"7", b"07", b"007"]), Ok(3));
+    assert_eq!(of(&[b"", b"A", b""]), Err(refused(13, &[3, 1])));
+}
+
+#[test]
+fn lookup_gives_the_first_record_with_the_number() {
+    let mut bytes = record(9, 0x13, b"A", 1);
+    bytes.extend(record(0x1234, 0x12, b"B", 2));
+    bytes.extend(record(0x1234, 0x02, b"C", 3));
+    assert_eq!(catalogue_check(&bytes), Ok(3));
+    assert_eq!(
+        lookup(&bytes, 0x1234),
+        Ok(Record {
+            circuit: 0x1234,
+            label: 0x12,
+            trace: padded(b"B"),
+            flags: 2
+        })
+    );
+}
+
+#[test]
+fn any_number_not_in_it_is_14() {
+    let bytes = good(3);
+    for circuit in [0, 4, 9999, 10_000, 65_535, 65_536, 65_537, u32::MAX] {
+        assert_eq!(lookup(&bytes, circuit), Err(refused(14, &[])));
+    }
+}
+
+#[test]
+fn lookup_checks_the_catalogue_first() {
+    let mut bytes = good(3);
+    bytes[2 * RECORD_LENGTH + 4] = 0x00;
+    assert_eq!(lookup(&bytes, 1), Err(refused(4, &[3])));
+    assert_eq!(lookup(&bytes, 77), Err(refused(4, &[3])));
+    let twice = [good(2), good(1)].concat();
+    assert_eq!(lookup(&twice, 2), Err(refused(13, &[3, 1])));
+}
+
+#[test]
+fn listing_has_labels_of_two_capital_digits_and_traces_as_they_stand() {
+    let mut bytes = record(9999, 0x0A, b" ]x[ ~", 0);
+    bytes.extend(record(10, 0xFE, b"ABCDEFGHIJKLMNO", 9));
+    assert_eq!(
+        listing(&bytes),
+        b"circuit label trace flags\n\
+          9999 0A [ ]x[ ~         ] 0\n\
+          10 FE [ABCDEFGHIJKLMNO] 9\n"
+    );
+}
+
+#[test]
+fn every_input_is_answered() {
+    let mut seed = 7;
+    for _ in 0..3000 {
+        let mut bytes = if next(&mut seed) % 2 == 0 {
+            good((next(&mut seed) % 6) as usize)
+        } else {
+            let length = next(&mut seed) % 70;
+            (0..length).map(|_| next(&mut seed) as u8).collect()
+        };
+        if !bytes.is_empty() && next(&mut seed) % 2 == 0 {
+            let place = next(&mut seed) as usize % bytes.len();
+            bytes[place] = next(&mut seed) as u8;
+        }
+        parity(&bytes);
+        trace_check(&bytes);
+        word_reading(&bytes);
+        let text = listing(&bytes);
+        assert_eq!(text.last(), Some(&b'\n'));
+        match catalogue_check(&bytes) {
+            Ok(count) => assert_eq!(count * RECORD_LENGTH, bytes.len()),
+            Err(refusal) => assert_eq!(lookup(&bytes, 1), Err(refusal)),
+        }
+    }
+    start_byte(&[0xFF; 15]);
+    for value in 0..=u16::MAX {
+        plain_word(value);
+        increment_word(value);
+        decrement_word(value);
+        inverted(value, !value);
+    }
+}
