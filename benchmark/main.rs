@@ -196,8 +196,8 @@ fn run(offset: u16, adjusting: bool) -> Run {
     made
 }
 
-fn flags() -> c::Flags {
-    c::Flags { monitored: true, rdi: true, ssf: true, ais: true }
+fn settings() -> c::Settings {
+    c::Settings { label: LABEL, trace: TRACE, flags: c::Flags { monitored: true, rdi: true, ssf: true, ais: true } }
 }
 
 fn carries(took: f64) {
@@ -212,7 +212,7 @@ fn sinks(what: &str, run: &Run) {
     let proved_turn = |mut s: c::Plain| {
         let (mut held, mut done) = (held.borrow_mut(), done.borrow_mut());
         for unit in &run.units {
-            s = proved::sink(s, LABEL, &TRACE, flags(), unit, &mut held, &mut done).state;
+            s = proved::sink(s, settings(), unit, &mut held, &mut done).state;
         }
         s
     };
@@ -321,7 +321,7 @@ fn sinks_in_turn(offset: u16, count: usize, shared: bool) {
     let proved_turn = |rounds: usize| {
         let mut states = states.borrow_mut();
         port.borrow_mut().play(&run, &at, rounds, &mut |k, unit, held, done| {
-            states[k] = proved::sink(states[k], LABEL, &TRACE, flags(), unit, held, done).state;
+            states[k] = proved::sink(states[k], settings(), unit, held, done).state;
         });
     };
     let fast_turn = |rounds: usize| {
@@ -531,10 +531,10 @@ fn stacks() {
     let unit = &run(400, false).units[0];
     let mut s = proved::fresh_sink();
     for _ in 0..3 {
-        s = proved::sink(s, LABEL, &TRACE, flags(), unit, &mut room[..CONTAINER], &mut done).state;
+        s = proved::sink(s, settings(), unit, &mut room[..CONTAINER], &mut done).state;
     }
     stack::show("sink (its state and answer, in and out, are counted too)", &mut || {
-        black_box(proved::sink(s, LABEL, &TRACE, flags(), unit, &mut room[..CONTAINER], &mut done));
+        black_box(proved::sink(s, settings(), unit, &mut room[..CONTAINER], &mut done));
     });
     stack::show("payload call", &mut || {
         black_box(unsafe { c::probe_payload(container.as_ptr(), CONTAINER, room.as_mut_ptr(), PAYLOAD, false) });

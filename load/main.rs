@@ -18,10 +18,10 @@ mod scripts;
 mod second;
 
 use bench::Bench;
-use proved::c::{Defect, Flags, Gathered, Label, Monitor, Parity, Plain, Rows, Run, Shown, Trace};
+use proved::c::{Accepted, Defect, Flags, Gathered, Monitor, Parity, Plain, Rows, Run, Settings, Shown, Trace, Watch};
 use random::Random;
 use second::coverage::{Counts, NAMES};
-use second::{Ended, Pointer, Sink, Watch, AU4};
+use second::{Ended, Pointer, Sink, AU4};
 use std::fmt::Write as _;
 
 /// How long a script is. A shorter one would not settle; a longer one starts fresh less often.
@@ -33,7 +33,7 @@ const PRINTED: u64 = 10;
 
 // ---- the second program's state, as the proved sink has it
 
-fn defect(w: Watch) -> Defect {
+fn defect(w: second::Watch) -> Defect {
     Defect { with: if w.last { w.run } else { 0 }, without: if w.last { 0 } else { w.run }, stands: w.stands }
 }
 
@@ -58,23 +58,25 @@ fn plain(s: &Sink) -> Plain {
         held: usize::from(s.held),
         monitor: Monitor {
             parity: Parity { known: s.parity.is_some(), value: s.parity.unwrap_or(0) },
-            label: Label {
-                last: if s.label_run > 0 { s.label } else { 0 },
-                run: s.label_run,
-                known: s.accepted_label.is_some(),
-                accepted: s.accepted_label.unwrap_or(0),
+            watch: Watch {
+                label: Accepted {
+                    last: if s.label_run > 0 { s.label } else { 0 },
+                    run: s.label_run,
+                    known: s.accepted_label.is_some(),
+                    value: s.accepted_label.unwrap_or(0),
+                },
                 plm: s.plm,
-            },
-            uneq: defect(s.uneq),
-            rdi: defect(s.remote),
-            trace: Trace {
-                gathered: Gathered { place: s.place, start: if gathered > 0 { s.message[0] } else { 0 }, chars },
-                last: if s.message_run > 0 { s.characters } else { [0; 15] },
-                run: s.message_run,
-                known: s.accepted_trace.is_some(),
-                accepted: s.accepted_trace.unwrap_or([0; 15]),
-                without: s.without,
-                tim: s.tim,
+                uneq: defect(s.uneq),
+                rdi: defect(s.remote),
+                trace: Trace {
+                    gathered: Gathered { place: s.place, start: if gathered > 0 { s.message[0] } else { 0 }, chars },
+                    last: if s.message_run > 0 { s.characters } else { [0; 15] },
+                    run: s.message_run,
+                    known: s.accepted_trace.is_some(),
+                    accepted: s.accepted_trace.unwrap_or([0; 15]),
+                    without: s.without,
+                    tim: s.tim,
+                },
             },
         },
         total: s.unsettled,
@@ -93,13 +95,14 @@ fn meaning(mut p: Plain) -> Plain {
     if !m.parity.known {
         m.parity.value = 0;
     }
-    if m.label.run == 0 {
-        m.label.last = 0;
+    let w = &mut m.watch;
+    if w.label.run == 0 {
+        w.label.last = 0;
     }
-    if !m.label.known {
-        m.label.accepted = 0;
+    if !w.label.known {
+        w.label.value = 0;
     }
-    let t = &mut m.trace;
+    let t = &mut w.trace;
     if t.gathered.place == 0 {
         t.gathered.start = 0;
     }
@@ -273,7 +276,7 @@ impl Load {
     fn sink(&mut self, card: &mut Card, b: &Bench, said: &str) {
         let e = &b.expected;
         let unit: Box<[u8]> = b.line.clone().into();
-        let shown = proved::sink(proved::between_fields_0(&card.sink), e.label, &e.trace, flags(e), &unit, &mut card.held, &mut card.done);
+        let shown = proved::sink(proved::between_fields_0(&card.sink), settings(e), &unit, &mut card.held, &mut card.done);
         self.calls += 1;
         self.same("the sink's answer", printed(said), told(&shown));
         if shown.number != 0 {
@@ -312,7 +315,7 @@ impl Load {
         let (mut held_2, mut done_2) = (b.held.clone(), b.done.clone());
         let unit: Box<[u8]> = b.line.clone().into();
         let given = plain(&s);
-        let shown = proved::sink(proved::between_fields_0(&given), e.label, &e.trace, flags(e), &unit, &mut held, &mut done);
+        let shown = proved::sink(proved::between_fields_0(&given), settings(e), &unit, &mut held, &mut done);
         self.states += 1;
         match second::sink(AU4, &s, e, &b.line, &mut held_2, &mut done_2, &mut |_| {}) {
             Err(number) => {
@@ -352,8 +355,8 @@ impl Load {
                 4 => s.pointer.run_value = [0, 1, 400, 782, r.below(783) as u16][r.below(5)],
                 5 => s.pointer.wait = r.below(4) as u8,
                 6 => s.label_run = r.below(6) as u8,
-                7 => s.uneq = Watch { last: r.below(2) == 0, run: r.below(6) as u8, stands: r.below(2) == 0 },
-                8 => s.remote = Watch { last: r.below(2) == 0, run: r.below(6) as u8, stands: r.below(2) == 0 },
+                7 => s.uneq = second::Watch { last: r.below(2) == 0, run: r.below(6) as u8, stands: r.below(2) == 0 },
+                8 => s.remote = second::Watch { last: r.below(2) == 0, run: r.below(6) as u8, stands: r.below(2) == 0 },
                 9 => s.message_run = r.below(4) as u8,
                 10 => s.without = [0, 46, 47, 48, r.below(49) as u8][r.below(5)],
                 11 => s.tim = !s.tim,
@@ -426,8 +429,9 @@ impl Load {
     }
 }
 
-fn flags(e: &second::Expected) -> Flags {
-    Flags { monitored: e.monitored, rdi: e.rdi_reported, ssf: e.ssf_reported, ais: e.ais_reported }
+fn settings(e: &second::Expected) -> Settings {
+    let flags = Flags { monitored: e.monitored, rdi: e.rdi_reported, ssf: e.ssf_reported, ais: e.ais_reported };
+    Settings { label: e.label, trace: e.trace, flags }
 }
 
 fn main() {

@@ -57,9 +57,7 @@ pub mod c {
         pub fn probe_fresh_sink() -> Plain;
         pub fn probe_sink(
             s: Plain,
-            label: u8,
-            trace: *const [u8; 15],
-            flags: Flags,
+            e: Settings,
             unit: *const u8,
             unit_length: usize,
             held: *mut u8,
@@ -95,11 +93,12 @@ pub mod c {
         Rows { alarms: u8, news: u8, invalids: u8 }
         Run { count: u8, value: u16 }
         Parity { known: bool, value: u8 }
-        Label { last: u8, run: u8, known: bool, accepted: u8, plm: bool }
+        Accepted { last: u8, run: u8, known: bool, value: u8 }
         Defect { with: u8, without: u8, stands: bool }
         Gathered { place: u8, start: u8, chars: [u8; 15] }
         Trace { gathered: Gathered, last: [u8; 15], run: u8, known: bool, accepted: [u8; 15], without: u8, tim: bool }
-        Monitor { parity: Parity, label: Label, uneq: Defect, rdi: Defect, trace: Trace }
+        Watch { label: Accepted, plm: bool, uneq: Defect, rdi: Defect, trace: Trace }
+        Monitor { parity: Parity, watch: Watch }
         Plain { kind: u8, offset: u16, rows: Rows, run: Run, wait: u8, held: usize, monitor: Monitor, total: u16 }
         Told { violations: u8, returned: u8 }
         Ended { number: u8, completed: bool, inside: bool, place: usize, first: Told, second: Told }
@@ -107,6 +106,7 @@ pub mod c {
         Defects { uneq: bool, tim: bool, plm: bool, rdi: bool }
         Causes { ais: bool, lop: bool, ssf: bool, uneq: bool, tim: bool, rdi: bool, plm: bool }
         Flags { monitored: bool, rdi: bool, ssf: bool, ais: bool }
+        Settings { label: u8, trace: [u8; 15], flags: Flags }
         Shown { number: u8, state: Plain, ended: Ended, actions: Actions, defects: Defects, causes: Causes, settled: bool }
     }
 }
@@ -253,8 +253,8 @@ pub fn fresh_sink() -> c::Plain {
 }
 
 /// The sink's whole answer. The buffers are lent as they are: where valgrind is to see their ends, they are boxes of exactly their length.
-pub fn sink(s: c::Plain, label: u8, trace: &[u8; 15], flags: c::Flags, unit: &[u8], held: &mut [u8], done: &mut [u8]) -> c::Shown {
-    unsafe { c::probe_sink(s, label, trace, flags, unit.as_ptr(), unit.len(), held.as_mut_ptr(), held.len(), done.as_mut_ptr(), done.len()) }
+pub fn sink(s: c::Plain, e: c::Settings, unit: &[u8], held: &mut [u8], done: &mut [u8]) -> c::Shown {
+    unsafe { c::probe_sink(s, e, unit.as_ptr(), unit.len(), held.as_mut_ptr(), held.len(), done.as_mut_ptr(), done.len()) }
 }
 
 /// The container that ended k-th in a unit, counted from 0, written to the start of `out`: how many bytes. The buffers are lent as they are.
