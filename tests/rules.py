@@ -56,6 +56,8 @@ SECTIONS = [
 HEADINGS = ["Rule", "Definition", "Promise or theorem", "Shown by"]
 # the section whose functions ask nothing of their caller
 CALLS = "The three demands"
+# how the row begins whose theorems are demand 3 as a whole
+DEMAND = "3. The whole of it"
 # crates for tests and benchmarks alone
 TESTS = ("probe", "probe_sources", "probe_sink")
 # how a third cell begins where no promise and no theorem holds the rule
@@ -220,6 +222,15 @@ def check_complete(standing, faults):
                 known = names.definitions().get(definition)
                 where = f"{known.file}:{known.line}" if known else "unknown"
                 faults.add(None, f"{definition} ({where}), cited by the promise of {name}, stands in no table")
+
+
+def demand():
+    """The theorems that are demand 3 as a whole."""
+    rows = [row for row in tables(names.text_of(RULES).split("\n"), Faults()) if row.cells[0].startswith(DEMAND)]
+    found = [name for row in rows for name in TICKED.findall(row.cells[2]) if name in names.theorems()]
+    if not found:
+        raise names.Unreadable(f"docs/RULES.md: no theorem in a row that begins with '{DEMAND}'")
+    return found
 
 
 # ---- the links at the end
