@@ -107,8 +107,8 @@ def entry_points():
     """The functions of the section of entry points, in its order."""
     _, heading, rest = names.text_of(names.ROOT / PAGE).partition(f"\n{ENTRY}\n")
     found = [row.function for row in rows(rest.partition("\n## ")[0].split("\n"), lambda line, what: None)]
-    if not found:
-        raise names.Unreadable(f"{PAGE}: no functions under '{ENTRY}'")
+    if not found or not set(found) <= set(names.public_functions()):
+        raise names.Unreadable(f"{PAGE}: no functions under '{ENTRY}', or one that is not there")
     return found
 
 

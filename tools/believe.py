@@ -99,9 +99,9 @@ def file_of(definition):
 @functools.cache
 def lines_of(file):
     """The numbers of a file's lines that count, and those of each of its definitions."""
-    path = names.ROOT / file
-    counted = {number for number, line in enumerate(names.text_of(path).split("\n"), 1) if line.strip() and not line.lstrip().startswith(("--", "use ", "pub use "))}
-    return counted, dict(names.own_lines(path))
+    lines = names.text_of(names.ROOT / file).split("\n")
+    counted = {number for number, line in enumerate(lines, 1) if line.strip() and not line.lstrip().startswith(("--", "use ", "pub use "))}
+    return counted, dict(names.own_lines(names.ROOT / file))
 
 
 def by_file(definitions):
@@ -213,10 +213,11 @@ def main():
         README.write_text(found[0] + want + found[2], encoding="utf-8")
     elif found[1] != want:
         line, row = first_other(found, want)
-        faults.append(f"README.md:{line}: the table of what must be believed is not that of the repository (tools/believe.py --write writes it), from here on: {row}")
+        faults.append(f"README.md:{line}: what must be believed is not that of the repository (tools/believe.py --write writes it), from here on: {row}")
     for fault in faults:
         print(fault)
-    print(f"believe: {len(all_statements)} statements, {len({file_of(name) for stated in all_statements for name in stated.definitions})} files; faults: {len(faults)}")
+    files = {file_of(name) for stated in all_statements for name in stated.definitions}
+    print(f"believe: {len(all_statements)} statements, {len(files)} files; faults: {len(faults)}")
     return 1 if faults else 0
 
 
