@@ -3,7 +3,7 @@
 
 Usage: believe.py            compares the table in README.md with the repository; what is wrong is printed, and the status is then 1.
        believe.py --write    writes it anew, between its two marks.
-       believe.py --names    prints of each statement the files, and in each the definitions that it does not come to.
+       believe.py --names    prints of each statement the files, and in each the definitions that it does not come to; then those to which none comes.
 
 The statements are the promises of the entry points (the first table of docs/PROMISES.md), those of a crate together, and demand 3 (the theorems that
 docs/RULES.md names for the whole of it). From the definitions that a promise or a theorem names it goes on by name, through what each of these names in
@@ -162,6 +162,11 @@ def print_names(all_statements):
             left = [name for name in lines if name not in own]
             print(f"  {file}: {reached_lines(file, own)} lines of {len(counted)}" + (f"; not {', '.join(left)}" if left else ""))
         print(f"  {' '.join(sorted(stated.types))}")
+    reached = set().union(*(stated.definitions for stated in all_statements))
+    files = {file_of(name) for name in reached}
+    print("no statement, though of these files")
+    for file, own in by_file(name for name in names.definitions() if name not in reached and file_of(name) in files).items():
+        print(f"  {file}: {', '.join(sorted(own))}")
 
 
 # ---- what is wrong
