@@ -1,12 +1,12 @@
 #!/usr/bin/env python3
-"""The tests of the two pages tried: texts that they must refuse, and texts that they must not.
+"""The tests of the pages tried: texts that they must refuse, and texts that they must not.
 
 Usage: holes.py
 
 The repository is copied to a temporary folder and spoiled there: determinacy theorems that read nothing, too little or another function's contract,
-and public functions of shapes that no page can name. tests/promises.py and tests/rules.py are run on it, and each trial must be said, in a line that has
-all the words that stand beside it. A trial that stops the reading is made alone. What went wrong is printed, then a summary; the status is 1 where
-anything did.
+public functions of shapes that no page can name, names that are not there, pages and pictures that are no longer what they are made from, statements
+that come to what only proofs may need. The four tests below are run on it, and each trial must be said, in a line that has all the words that stand
+beside it. A trial that stops the reading is made alone. What went wrong is printed, then a summary; the status is 1 where anything did.
 """
 import collections
 import pathlib
@@ -16,7 +16,7 @@ import sys
 import tempfile
 
 ROOT = pathlib.Path(__file__).resolve().parent.parent
-PROMISES, RULES = "promises.py", "rules.py"
+PROMISES, RULES, BELIEVE, CRATES = TESTS = ("tests/promises.py", "tests/rules.py", "tools/believe.py", "tools/crates.py")
 
 # what is done to a file: `old`, which stands in it once, becomes `new`; where there is no old text, the new one is put at its end. Then the tests that
 # must say so, and the words of a line that does; where it is no fault, no test may
@@ -35,6 +35,7 @@ def allowed(file, new):
     return Trial(f"crates/{file}", None, new, [], [f"crates/{file}:"])
 
 
+PEEK = "use Prim.Native.Nat.{ℕ}\npub peek : ℕ\npeek = 0\n"
 HELD, DONE = "now (e .1 .1 .1 .1 .1 .0)", "now (e .1 .1 .1 .1 .1 .1 .0)"
 
 TRIALS = [
@@ -96,12 +97,27 @@ TRIALS = [
     allowed("settings/src/lib.rt", "\n// pub fn peek() {}\nstruct Peek {\n    pub at: u8, // pub\n}\nfn peek() {}\n"),
     allowed("bench/src/say.rt", "\npub fn peek() {}\n"),
     allowed("bench/src/inner.rt", "impl Peek {\n    pub fn peek(self) {}\n}\n"),
+    # the rules: a name that is not there, one in brackets, one that the index has not; one that no table has
+    Trial("docs/RULES.md", None, "| a | `sink/Peek.peek` | nothing | none |\n", [RULES], ["docs/RULES.md:", "`sink/Peek.peek` is unknown"]),
+    Trial("docs/RULES.md", None, "| a | none | [`sink::sink`] | none |\n", [RULES], ["docs/RULES.md:", "`sink::sink` is written in brackets"]),
+    Trial("docs/RULES.md", None, "| a | none | `card::card_parity` | none |\n", [RULES], ["docs/RULES-INDEX.md:", "names are missing", "`card::card_parity`"]),
+    Trial("docs/RULES-INDEX.md", None, "\n[`case peek`](../README.md)\n", [RULES], ["docs/RULES-INDEX.md:", "`case peek` stands in no table"]),
+    # what must be believed: another table; a statement that comes to an Inner file, and such a file to which none comes
+    Trial("README.md", "| Statement |", "| Statements |", [BELIEVE], ["README.md:", "not that of the repository", "from here on: Statement"]),
+    Trial("crates/parity/specs/InnerPeek.antt", None, PEEK, [BELIEVE], ["crates/parity/specs/InnerPeek.antt:", "is reached from card::card_parity"]),
+    Trial("crates/parity/specs/Parity.antt", "\nparityOf [] = 0\n", "\nparityOf [] = peek\nuse Rattle.parity.specs.InnerPeek.{peek}\n", [BELIEVE],
+          ["parity/InnerPeek.peek", "by parity/Parity.parityOf"]),
+    allowed("word/specs/InnerPeek.antt", PEEK),
+    # a picture, and a page, that crates.txt does not give
+    Trial("docs/pictures/crates.svg", None, "\n", [CRATES], ["docs/pictures/crates.svg: not what"]),
+    Trial("docs/CRATES.md", None, "\n", [CRATES], ["docs/CRATES.md: not what"]),
 ]
 
-# comments in which a name could hide, or be made up
+# comments in which a name could hide, or be made up; a `use` that could bring in anything
 UNREADABLE = [
-    Trial("crates/parity/src/lib.rt", None, "/* pub fn peek() {} */\n", [PROMISES, RULES], ["crates/parity/src/lib.rt:", "a comment of more than a line"]),
-    Trial("crates/promises/proofs/Sources.antt", None, "{- pub a : ℕ -}\n", [PROMISES, RULES], ["Sources.antt:", "a comment in braces"]),
+    Trial("crates/parity/src/lib.rt", None, "/* pub fn peek() {} */\n", TESTS, ["crates/parity/src/lib.rt:", "a comment of more than a line"]),
+    Trial("crates/promises/proofs/Sources.antt", None, "{- pub a : ℕ -}\n", TESTS, ["Sources.antt:", "a comment in braces"]),
+    Trial("crates/parity/specs/Parity.antt", None, "use Rattle.word.specs.Word\n", [BELIEVE], ["crates/parity/specs/Parity.antt:", "a use that is not understood"]),
 ]
 
 wrong = []
@@ -119,13 +135,13 @@ def spoil(copy, trial):
 
 
 def run(copy, test):
-    done = subprocess.run([sys.executable, copy / "tests" / test], capture_output=True, text=True, timeout=300)
+    done = subprocess.run([sys.executable, copy / test], capture_output=True, text=True, timeout=300)
     return done.returncode, (done.stdout + done.stderr).splitlines()
 
 
 def expect(copy, trials, status, what):
-    """Runs both tests. Each trial must be said by those that it names, none by others, and the status must be this."""
-    for test in (PROMISES, RULES):
+    """Runs the tests. Each trial must be said by those that it names, none by others, and the status must be this."""
+    for test in TESTS:
         got, lines = run(copy, test)
         if got != (status if any(test in trial.said for trial in trials) else 0):
             wrong.append(f"{test} on {what}: status {got}")

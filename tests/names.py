@@ -17,6 +17,10 @@ As a module, each of these answers with a dictionary in the order of the files:
     cited()              the same of the public functions alone
     asking()             the functions, `crate::name`, that have a requires
     uses()               definition or theorem    -> the definitions and theorems that its own text names
+    said_by(theorem)     the definitions that its statement names
+    types()              `crate::Name`            -> Type      the structs and enums of the libraries' lib.rt
+    types_named()        definition               -> the structs and enums, `crate::Name`, that its own text names
+    groups()             crates.txt: the headings, each with its crates, each with those that it rests on
     strays()             faults: whatever else is public and a function in a library, as a method, where no page could name it
 
 A Place is a file, from the repository's root, a line, and whether the name is public there. A fault of the text that stops the reading
@@ -52,6 +56,26 @@ def put(names, name, place):
     names[name] = place
 
 
+# ---- crates
+
+@functools.cache
+def groups():
+    found, path = [], ROOT / "crates.txt"
+    for number, line in enumerate(text_of(path).split("\n"), 1):
+        crate, colon, on = line.partition(":")
+        if line.startswith("#"):
+            found.append((line[1:].strip(), {}))
+        elif found and colon and crate not in crates_of(found):
+            found[-1][1][crate] = on.split()
+        elif line:
+            raise Unreadable(f"{shown(path)}:{number}: no heading, and no further crate under one")
+    return found
+
+
+def crates_of(of_groups):
+    return [crate for _, own in of_groups for crate in own]
+
+
 # ---- antt: definitions and theorems
 
 # modifiers; then a name and its type, or a record, data type or set of rules
@@ -73,11 +97,11 @@ def antt_text(path):
 
 
 def antt_names(path):
-    """The names of a file. The owner is the record or data type of a part, else nothing; the heads are those of the modules it stands in.
+    """The names of a file. The owner is the record or data type of a part, else nothing; the heads are the lines of those of the modules it stands in.
 
     A module's body counts as the file's own, whatever its depth; what stands deeper than the body that holds it is a continuation.
     """
-    bodies = [(-1, "module", "", 0)]  # for each open body: the indent of its head, its form, its head or name, the indent of what is in it
+    bodies = [(-1, "module", None, 0)]  # for each open body: the indent of its head, its form, its head's line or its name, the indent of what is in it
     for number, line in enumerate(antt_text(path).split("\n"), 1):
         body = line.lstrip(" ")
         if not body or body.startswith("--"):
@@ -92,9 +116,9 @@ def antt_names(path):
         if indent != inside or body.startswith(SKIPPED):
             continue
         if form == "module" and MODULE.match(body):
-            bodies.append((indent, "module", body, None))
+            bodies.append((indent, "module", number, None))
             continue
-        heads = [head for _, kind, head, _ in bodies if kind == "module"]
+        heads = [head for _, kind, head, _ in bodies[1:] if kind == "module"]
         found = NAMED.match(body) if form == "module" else None
         if found:
             yield Name(found["name"], number, "pub" in found["modifiers"], None, heads)
@@ -151,6 +175,8 @@ IMPORT = re.compile(r"^ghost use (?P<path>[^\s;{]+?)(?:\.\{(?P<names>[^}]*)\}| a
 SPECS = re.compile(r"^Rattle·(?P<crate>\w+?)(?:·specs)?\.specs\.(?P<file>[^.]+)$")
 CLAUSE = re.compile(r"\b(?P<word>requires|ensures)\b[^{\n]*\{")
 BOUND = re.compile(r"λ ([^.⌜]*)\.\s")
+# a name with its type behind it
+MADE = re.compile(r"(?<![^\s(){}⌜⌝,;])[^\s(){}⌜⌝,;]+ :(?=\s)")
 # a text, a character, a comment of a line's rest, the begin of one of the other kind
 LITERAL_OR_COMMENT = re.compile(r'"(?:\\.|[^"\\\n])*"|\'(?:\\(?:x\w\w|.)|[^\'\\\n])\'|//[^\n]*|/\*')
 # `pub` and, with whatever words between, `fn`; a field has a colon between, any other item a brace, `=` or `;`
@@ -302,9 +328,10 @@ def contract(text, at, path):
 
 
 def words_cited(text, known, bound):
-    """The names of `known` that a text cites, resolved. An operator `_+_` is cited by what stands between the blanks; a field, `.x` or `x =`, is not."""
+    """The names of `known` that a text cites, resolved. An operator `_+_` is cited by what stands between the blanks; a field, `.x` or `x =`, is not, nor
+    is what has its type behind it, `x :`, for it is made there."""
     operators = {name.strip("_"): name for name in known if name.startswith("_") and name.endswith("_") and len(name) > 2}
-    words = re.sub(r"[(){}⌜⌝,;]", " ", text).split()
+    words = re.sub(r"[(){}⌜⌝,;]", " ", MADE.sub("", text)).split()
     for word, following in zip(words, words[1:] + [""]):
         front, dot, name = word.partition(".")
         if dot and front + "." in known and name:
@@ -367,14 +394,33 @@ def used(text):
     return names
 
 
-def own_texts(path):
-    """Each top-level name of a file with its own lines and the heads of its modules; comments, `unfolding` and other modules' heads are left out."""
+# what a definition is not made of
+NOT_OWN = ("--", "unfolding ", "use ", "module ")
+
+
+def own_lines(path):
+    """Each top-level name of a file with the numbers of its lines, the heads of its modules first; blank lines, comments, `unfolding` and other modules'
+    heads are left out."""
     lines = text_of(path).split("\n")
     starts = [found for found in antt_names(path) if found.owner is None]
     ends = [found.line for found in starts[1:]] + [len(lines) + 1]
     for found, end in zip(starts, ends):
-        own = [line for line in lines[found.line - 1 : end - 1] if not line.lstrip().startswith(("--", "unfolding ", "use ", "module "))]
-        yield found.name, "\n".join(found.heads + own)
+        own = [number for number in range(found.line, end) if lines[number - 1].strip() and not lines[number - 1].lstrip().startswith(NOT_OWN)]
+        yield found.name, found.heads + own
+
+
+def own_texts(path):
+    """The same with their text."""
+    lines = text_of(path).split("\n")
+    for name, own in own_lines(path):
+        yield name, "\n".join(lines[number - 1] for number in own)
+
+
+def known_in(front, path):
+    """All that a file's text can name: what it brings in, and its own, each to the file it is of."""
+    known = used(text_of(path))
+    known.update({found.name: front for found in antt_names(path) if found.owner is None})
+    return known
 
 
 @functools.cache
@@ -383,12 +429,78 @@ def uses():
     for folder in ("specs", "proofs"):
         for crate, stem, path in antt_files(folder):
             front = f"{crate}/{stem}" if folder == "specs" else f"{crate}/proofs/{stem}"
-            known = used(text_of(path))
-            known.update({found.name: front for found in antt_names(path) if found.owner is None})
+            known = known_in(front, path)
             for name, own in own_texts(path):
                 names.setdefault(f"{front}.{name}", set()).update(words_cited(own, known, {name}))
     return names
 
+
+# a public theorem's name and what it says, up to the next line that begins with a name
+STATED = re.compile(r"^pub (\S+) :(.*(?:\n(?:[ \t].*|--.*)?)*)", re.M)
+
+
+def said_by(theorem):
+    """The definitions that the statement of a public theorem names; its proof may name others."""
+    path = ROOT / theorems()[theorem].file
+    front, _, name = theorem.partition(".")
+    for found in STATED.finditer(antt_text(path)):
+        if found[1] == name:
+            return sorted(set(words_cited(found[2], known_in(front, path), {name})))
+    raise Unreadable(f"{shown(path)}: {name} is no public theorem")
+
+
+# ---- the code's own types, as definitions name them
+
+DECLARED = re.compile(
+    r"^(?:pub )?use Rattle·(?P<crate>\w+?)(?:·specs)?\.specs\.declared\.(?P<type>\w+)(?:\.the-variants)?(?:\.\{(?P<names>[^}]*)\}| as (?P<alias>\S+))$",
+    re.M,
+)
+TYPE = re.compile(r"^(?:pub )?(?:struct|enum) (?P<name>\w+)[^{\n]*\{", re.M)
+USED_TYPE = re.compile(r"^(?:pub )?use (?P<crate>\w+)::(?P<name>[A-Z]\w*);", re.M)
+
+Type = collections.namedtuple("Type", "place names")
+
+
+def types_in(text, crate, source):
+    """The types, `crate::Name`, that a piece of a source names."""
+    here = {found["name"]: crate for found in TYPE.finditer(source)}
+    here.update((found["name"], found["crate"]) for found in USED_TYPE.finditer(source))
+    for front, name in re.findall(r"(?:\b(\w+)::)?\b([A-Z]\w*)", text):
+        if front or name in here:
+            yield f"{front or here[name]}::{name}"
+
+
+@functools.cache
+def types():
+    """Each has its place and the types that its own fields name. A line of a field or of an enum's case begins with its name, which is no type."""
+    found_types = {}
+    for crate, path in rt_files("src/lib.rt"):
+        source = code(path)
+        for found in TYPE.finditer(source):
+            body = re.sub(r"(?m)^\s*(?:pub )?\w+", "", source[found.end() : closing(source, found.end(), path) - 1])
+            place = Place(shown(path), line_of(source, found.start()), found[0].startswith("pub "))
+            found_types[f"{crate}::{found['name']}"] = Type(place, set(types_in(body, crate, source)))
+    return found_types
+
+
+@functools.cache
+def types_named():
+    """Of every definition. A `use` line that is not understood stops the reading: what it brings in would be left out."""
+    named = {}
+    for crate, stem, path in antt_files("specs"):
+        text = text_of(path)
+        for line in re.finditer(r"^(?:pub )?use Rattle·.*$", text, re.M):
+            if not USE.fullmatch(line[0]) and not DECLARED.fullmatch(line[0]):
+                raise Unreadable(f"{shown(path)}:{line_of(text, line.start())}: a use that is not understood")
+        known = {}
+        for found in DECLARED.finditer(text):
+            known.update(brought(found, f"{found['crate']}::{found['type']}"))
+        for name, own in own_texts(path):
+            named[f"{crate}/{stem}.{name}"] = {cited_type.partition(".")[0] for cited_type in words_cited(own, known, {name})}
+    return named
+
+
+# ---- what is reached from names on
 
 def reached(roots):
     """All that is used from these names on, they among it."""

@@ -7,7 +7,7 @@ Every script under examples and lessons is played, and what was printed is read 
 from the drawn shapes, not from how they came about: the units' cells by their places, then which cells each bar, band
 and box covers, which row name stands beside it and which text in it. Texts may not lie upon one another or outside the
 picture. Damaged pictures must be found out, and bad input must give a message, a status and no picture. The pictures
-in docs/pictures must be what the tool makes of their scripts, byte for byte, and docs/PICTURES.md must have what tshark prints.
+of runs in docs/pictures must be what the tool makes of their scripts, byte for byte, and docs/PICTURES.md must have what tshark prints.
 
 The capture of every script is cut back into units, and tshark reads all of them in one call: H1 and H2 must be those of
 the unit as fed, worked out from the script and the source's printed words; J1 the byte where the dissector looks for it.
@@ -29,6 +29,7 @@ from playing import play, run
 
 TIMELINE, PCAP = os.path.join(ROOT, "tools", "timeline.py"), os.path.join(ROOT, "tools", "pcap.py")
 KEPT = {"steps.svg": "examples/steps.bench", "worst.svg": "examples/settling/worst.bench"}
+OTHERS = ["crates.svg"]  # no run: tools/crates.py makes and compares it
 NAMES = "dUNEQ dTIM dPLM dRDI SSF TSF AIS RDI cAIS cLOP cSSF cUNEQ cTIM cRDI cPLM".split(" ")
 NEAR = 3  # how far a bar's edge may lie from the edge of a cell
 NARROW = "fijlrtI .,:;'!|()[]-\u00a0"
@@ -581,8 +582,8 @@ def check_bad_input(bench, folder):
 
 def check_kept(bench):
     folder = os.path.join(ROOT, "docs", "pictures")
-    if sorted(os.listdir(folder)) != sorted(KEPT):
-        fault("docs/pictures", f"has {sorted(os.listdir(folder))}, not {sorted(KEPT)}")
+    if sorted(os.listdir(folder)) != sorted([*KEPT, *OTHERS]):
+        fault("docs/pictures", f"has {sorted(os.listdir(folder))}, not {sorted([*KEPT, *OTHERS])}")
     for name, script in KEPT.items():
         path = os.path.join(ROOT, script)
         made = run([sys.executable, TIMELINE, "--script", path], play(bench, open(path, "rb").read(), path)).stdout

@@ -25,6 +25,7 @@ sys.dont_write_bytecode = True  # no folder beside the tests
 import names
 
 PAGE = "docs/PROMISES.md"
+ENTRY = "## Entry points"  # the section of what a host or a user calls
 COLUMNS = ["Function", "Promise", "Definition", "One outcome", "Rules out"]
 FOR_TESTS = "probe"  # crates whose names begin so
 PROMISES = "promises/proofs/"
@@ -56,8 +57,6 @@ EDIT = re.compile(r"[a-z_0-9]+/[a-z_0-9]+")
 DEFINITION = re.compile(r"[a-z_0-9]+/(?:proofs/)?[A-Z]\w*\.\S+")
 THEOREM = re.compile(r"[a-z0-9]+(?:-[a-z0-9]+)+")
 
-# up to the next line that begins with a name
-STATED = re.compile(r"^pub (\S+) :(.*(?:\n(?:[ \t].*|--.*)?)*)", re.M)
 READING = re.compile(r"Determines \{O = [^{}]+\} \d+ (?P<ps>\S+)\.ps (?P<r>\S+)\.r (?P<post>\S+)\.Post \(λ κs r e\. (?P<read>.*)\)")
 GATHERED = re.compile(r"record \{ (.*) \}")
 # the answer, the bytes of one that is a slice, what a parameter has at exit
@@ -102,6 +101,15 @@ def rows(lines, say):
                 yield Row(number, named[0], *row[2:])
             else:
                 say(number, f"a row that begins with no function: {row[0]}")
+
+
+def entry_points():
+    """The functions of the section of entry points, in its order."""
+    _, heading, rest = names.text_of(names.ROOT / PAGE).partition(f"\n{ENTRY}\n")
+    found = [row.function for row in rows(rest.partition("\n## ")[0].split("\n"), lambda line, what: None)]
+    if not found or not set(found) <= set(names.public_functions()):
+        raise names.Unreadable(f"{PAGE}: no functions under '{ENTRY}', or one that is not there")
+    return found
 
 
 # ---- what an edit changes, and what a function rests on
@@ -187,7 +195,7 @@ def statements():
             if alias in aliases:
                 raise names.Unreadable(f"{names.shown(path)}: two modules are named {alias}")
             aliases[alias] = re.sub(r"^Rattle·(\w+)\.proofs\.(\w+)\.(Kinds|Reads)$", r"\1::\2 \3", module)
-        for stated in STATED.finditer(text):
+        for stated in names.STATED.finditer(text):
             place = names.Place(names.shown(path), names.line_of(text, stated.start()), True)
             if stated[1] in found:
                 raise names.Unreadable(f"{place.file}:{place.line}: there are two theorems {stated[1]}")

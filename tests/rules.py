@@ -2,7 +2,7 @@
 """docs/RULES.md held to the repository: each name in its tables exists, each row hangs together, and nothing public is left out.
 
 Usage: rules.py            checks, prints each fault with its place and a summary line, and exits with 1 on any fault.
-       rules.py --links    writes the link definitions at the end of docs/RULES.md anew, and then checks.
+       rules.py --index    writes docs/RULES-INDEX.md anew, and then checks.
 
 A row has four cells: the rule; the definitions that hold it; the promises (functions) and theorems that use these; what shows it. In a table a
 backticked name is one of
@@ -13,10 +13,12 @@ backticked name is one of
     crate/label                                 an edit, crates/CRATE/must-fail/label.edit                   fourth cell
     case NAME                                   a case of second/coverage.rs that a random script must meet  fourth cell
 
-and is written in brackets, so that it is a link; the definitions of these links stand at the file's end. The one literal that may stand in backticks is
-a pointer word or a trace of four characters, each 0 to 9 or A to F. Checked is that
+and is no link there. docs/RULES-INDEX.md has the same sections, each with the names that stand in its tables as links to their files; the heading of a
+section here is a link to that one. The one literal that may stand in backticks is a pointer word or a trace of four characters, each 0 to 9 or A to F.
+Checked is that
 
-- every name is known, stands in its cell, and its link leads to its file; every other link leads to a file, and to a heading of it where it says so;
+- every name is known and stands in its cell; every link leads to a file, and to a heading of it where it says so;
+- the index is what the tables give: every name of a section with its file, and no other;
 - every definition of a row is cited, itself or by way of other definitions, by a function or a theorem of that row;
 - a third cell without a name begins with one of the words of UNHELD, which say plainly that no proof holds the rule;
 - the sections are those of SECTIONS, in that order;
@@ -35,8 +37,12 @@ sys.path.insert(0, os.path.dirname(os.path.abspath(__file__)))
 import names  # noqa: E402
 
 RULES = names.ROOT / "docs" / "RULES.md"
-# what stands before the definitions of the links, and is kept
-MARK = "<!-- The links, written by tests/rules.py --links. -->"
+INDEX = names.ROOT / "docs" / "RULES-INDEX.md"
+# what stands before the sections of the index
+ABOVE = """# Where the names of the rules stand
+
+Every name in the tables of [RULES.md](RULES.md), section by section, with its file. Written by `tests/rules.py --index`.
+"""
 
 # the scope paper's sections in its order, and two more
 SECTIONS = [
@@ -56,6 +62,8 @@ SECTIONS = [
 HEADINGS = ["Rule", "Definition", "Promise or theorem", "Shown by"]
 # the section whose functions ask nothing of their caller
 CALLS = "The three demands"
+# how the row begins whose theorems are demand 3 as a whole
+DEMAND = "3. The whole of it"
 # crates for tests and benchmarks alone
 TESTS = ("probe", "probe_sources", "probe_sink")
 # how a third cell begins where no promise and no theorem holds the rule
@@ -63,25 +71,26 @@ UNHELD = ("a test only", "by its type", "not built", "nothing")
 
 LITERAL = re.compile(r"[0-9A-F]{4}")
 TICKED = re.compile(r"`([^`]*)`")
-NAMED = re.compile(r"\[`([^`]+)`\](?![(\[:])")
+BRACKETED = re.compile(r"\[`([^`]+)`\]")
 LINK = re.compile(r"\[((?:[^\[\]]|\[[^\[\]]*\])*)\]\(([^()\s]*)\)")
-DEFINED = re.compile(r"\[`([^`]+)`\]: (\S+)")
+HEADING = re.compile(r"## (?:\[(?P<linked>.*)\]\((?P<target>[^()\s]*)\)|(?P<plain>.*))")
+INDEXED = re.compile(r"\[`([^`]+)`\]\((\S+?)\)")
 
 Row = collections.namedtuple("Row", "line section cells")
 
 
 class Faults:
-    """What was found, shown in the order of the file; first what stands nowhere in it."""
+    """What was found, shown in the order of the files; first what stands nowhere in one."""
 
     def __init__(self):
         self.all = []
 
-    def add(self, line, text):
-        self.all.append((line, text))
+    def add(self, line, text, file=RULES):
+        self.all.append((names.shown(file), line or 0, text))
 
     def show(self):
-        for line, text in sorted(self.all, key=lambda fault: fault[0] or 0):
-            print(f"docs/RULES.md:{line}: {text}" if line else f"docs/RULES.md: {text}")
+        for file, line, text in sorted(self.all, key=lambda fault: (fault[0] != names.shown(RULES), fault[1])):
+            print(f"{file}:{line}: {text}" if line else f"{file}: {text}")
 
 
 # ---- names
@@ -119,12 +128,18 @@ def split_row(text):
     return [cell.strip() for cell in text.strip().strip("|").split("|")]
 
 
+def section_of(heading):
+    """The section that a line is the heading of, and where its link leads; nothing where there is none."""
+    found = HEADING.fullmatch(heading)
+    return (found["linked"] or found["plain"]).strip(), found["target"]
+
+
 def tables(lines, faults):
     """The rows of the tables, with their sections."""
     rows, section, within = [], None, False
     for number, line in enumerate(lines, 1):
         if line.startswith("## "):
-            section = line[3:].strip()
+            section, _ = section_of(line)
         if not line.startswith("|"):
             within = False
             continue
@@ -161,15 +176,15 @@ def check_link(line, target, faults):
 def check_cell(row, index, faults):
     """The names of a cell, each with its kind."""
     cell, found = row.cells[index], []
-    linked = set(NAMED.findall(cell))
+    bracketed = set(BRACKETED.findall(cell))
     for name in TICKED.findall(cell):
         if LITERAL.fullmatch(name):
             continue
         known = place_of(name)
         if not known:
             faults.add(row.line, f"`{name}` is unknown")
-        elif name not in linked:
-            faults.add(row.line, f"`{name}` is not written in brackets")
+        elif name in bracketed:
+            faults.add(row.line, f"`{name}` is written in brackets: its link stands in {names.shown(INDEX)}")
         elif CELL_OF[known[0]] != index:
             faults.add(row.line, f"`{name}`, a {known[0]}, stands in the column '{HEADINGS[index]}'")
         else:
@@ -197,9 +212,13 @@ def check_row(row, faults):
 
 
 def check_sections(lines, faults):
-    sections = [line[3:].strip() for line in lines if line.startswith("## ")]
+    headings = [(number, *section_of(line)) for number, line in enumerate(lines, 1) if line.startswith("## ")]
+    sections = [section for _, section, _ in headings]
     if sections != SECTIONS:
         faults.add(None, f"the sections are {', '.join(sections)}\n    and should be {', '.join(SECTIONS)}")
+    for number, section, target in headings:
+        if target != f"{INDEX.name}#{slug(section)}":
+            faults.add(number, f"the heading should be a link to {INDEX.name}#{slug(section)}")
 
 
 def check_complete(standing, faults):
@@ -222,71 +241,105 @@ def check_complete(standing, faults):
                 faults.add(None, f"{definition} ({where}), cited by the promise of {name}, stands in no table")
 
 
-# ---- the links at the end
+def demand():
+    """The theorems that are demand 3 as a whole."""
+    rows = [row for row in tables(names.text_of(RULES).split("\n"), Faults()) if row.cells[0].startswith(DEMAND)]
+    found = [name for row in rows for name in TICKED.findall(row.cells[2]) if name in names.theorems()]
+    if not found:
+        raise names.Unreadable(f"docs/RULES.md: no theorem in a row that begins with '{DEMAND}'")
+    return found
 
-def definitions_of(standing):
-    """The link of each name that stands in the tables."""
-    return [f"[`{name}`]: ../{place_of(name)[1]}" for name in sorted(standing)]
 
+# ---- links, and the index
 
-def check_links(lines, standing, faults):
-    want = dict(DEFINED.fullmatch(line).groups() for line in definitions_of(standing))
-    seen = {}
+def check_links(lines, faults):
     for number, line in enumerate(lines, 1):
-        found = DEFINED.fullmatch(line)
-        if found:
-            name, target = found.groups()
-            if name in seen:
-                faults.add(number, f"a second link of `{name}`")
-            elif name not in want:
-                faults.add(number, f"a link of `{name}`, which stands in no table")
-            elif want[name] != target:
-                faults.add(number, f"the link of `{name}` should lead to {want[name]}")
-            seen[name] = target
-        else:
-            for text, target in LINK.findall(line):
-                check_link(number, target, faults)
-    missing = [name for name in want if name not in seen]
+        for text, target in LINK.findall(line):
+            check_link(number, target, faults)
+
+
+def rows_of_index(standing):
+    """The names of one section by their crates, with cases last, each name with its file."""
+    crates = collections.defaultdict(list)
+    for name in sorted(standing):
+        kind, file = place_of(name)
+        crates["cases" if kind == "case" else re.match(r"\w+", name)[0]].append((name, f"../{file}"))
+    for crate in sorted(crates, key=lambda crate: (crate == "cases", crate)):
+        yield f"| {crate} | " + ", ".join(f"[`{name}`]({target})" for name, target in crates[crate]) + " |"
+
+
+def index_of(standing):
+    """The text of the index, from the names that stand in each section."""
+    text = ABOVE
+    for section in SECTIONS:
+        text += "\n".join(["", f"## {section}", "", "| Crate | Names |", "|---|---|", *rows_of_index(standing[section]), ""])
+    return text
+
+
+def indexed(text):
+    """The names of an index, each with its section and link, and the line that it stands in."""
+    section = None
+    for number, line in enumerate(text.split("\n"), 1):
+        if line.startswith("## "):
+            section, _ = section_of(line)
+        for name, target in INDEXED.findall(line):
+            yield number, section, name, target
+
+
+def check_index(text, standing, faults):
+    wanted = index_of(standing)
+    if text == wanted:
+        return
+    want = {(section, name): target for _, section, name, target in indexed(wanted)}
+    seen, before = {}, len(faults.all)
+    for number, section, name, target in indexed(text):
+        if (section, name) in seen:
+            faults.add(number, f"`{name}` stands in line {seen[section, name]} too", INDEX)
+        elif (section, name) not in want:
+            faults.add(number, f"`{name}` stands in no table of '{section}'", INDEX)
+        elif want[section, name] != target:
+            faults.add(number, f"the link of `{name}` should lead to {want[section, name]}", INDEX)
+        seen[section, name] = number
+    missing = [key for key in want if key not in seen]
     if missing:
-        faults.add(None, f"{len(missing)} names with no link at the file's end, `{missing[0]}` the first (tests/rules.py --links writes them)")
-
-
-def write_links(text, standing):
-    kept = text.split(MARK)[0].rstrip("\n")
-    RULES.write_text(f"{kept}\n\n{MARK}\n\n" + "\n".join(definitions_of(standing)) + "\n", encoding="utf-8")
+        faults.add(None, f"{len(missing)} names are missing, `{missing[0][1]}` of '{missing[0][0]}' the first", INDEX)
+    if len(faults.all) == before:
+        faults.add(None, "not as tests/rules.py --index writes it", INDEX)
 
 
 # ---- all of it
 
-def check(text):
+def check(text, write):
     faults = Faults()
     lines = text.split("\n")
     check_sections(lines, faults)
     rows = tables(lines, faults)
-    standing = [name for row in rows for name in check_row(row, faults)]
-    check_complete(set(standing), faults)
-    check_links(lines, set(standing), faults)
-    return faults, rows, standing
+    standing = collections.defaultdict(set)
+    for row in rows:
+        standing[row.section].update(check_row(row, faults))
+    every = set().union(*standing.values())
+    check_complete(every, faults)
+    if write:
+        INDEX.write_text(index_of(standing), encoding="utf-8")
+    check_links(lines, faults)
+    check_index(names.text_of(INDEX) if INDEX.exists() else "", standing, faults)
+    return faults, rows, every
 
 
 def summary(rows, standing):
-    kinds = collections.Counter(place_of(name)[0] for name in set(standing))
+    kinds = collections.Counter(place_of(name)[0] for name in standing)
     said = ", ".join(f"{kinds[kind]} {kind}s" for kind in ("definition", "function", "theorem", "edit", "case"))
     unheld = [row for row in rows if row.cells[2].startswith(UNHELD)]
     by = ", ".join(f"{sum(row.cells[2].startswith(word) for row in unheld)} '{word}'" for word in UNHELD)
-    return f"RULES.md: {len(rows)} rows, {len(set(standing))} names ({said}); {len(unheld)} rows that no proof holds ({by})"
+    return f"RULES.md: {len(rows)} rows, {len(standing)} names ({said}); {len(unheld)} rows that no proof holds ({by})"
 
 
 def main():
-    if sys.argv[1:] not in ([], ["--links"]):
+    if sys.argv[1:] not in ([], ["--index"]):
         print(__doc__.split("\n\n")[1], file=sys.stderr)
         return 2
     try:
-        text = names.text_of(RULES)
-        faults, rows, standing = check(text)
-        if sys.argv[1:]:
-            write_links(text, set(standing))
-            faults, rows, standing = check(names.text_of(RULES))
+        faults, rows, standing = check(names.text_of(RULES), bool(sys.argv[1:]))
     except (OSError, UnicodeDecodeError, names.Unreadable) as fault:
         print(f"rules.py: {fault}", file=sys.stderr)
         return 2
