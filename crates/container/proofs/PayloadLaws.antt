@@ -50,10 +50,6 @@ module _ (s : Shape) (n m : ℕ) where
         payload-is = eqb-true m (payloadSize (s .columns)) (not-false (eqb m (payloadSize (s .columns))) q);
       }
 
-  -- so that `strip` has the lengths it asks for
-  pub strip-asks : Fit s → Handable s n m → (m ≡ 9 * (s .columns - 1)) × (n ≡ m + 9)
-  strip-asks f h = (h .payload-is, omega (arith, f .nine, f .some, f .two, h .container-is, h .payload-is))
-
 -- ---- the ends of `hand`
 
 module _ (s : Shape) (container : List ℕ) (ais : Bool) (before : List ℕ) (a : Answer) (is : a ≡ answerOf (payloadFaults s (length container) (length before))) where
@@ -61,6 +57,17 @@ module _ (s : Shape) (container : List ℕ) (ais : Bool) (before : List ℕ) (a 
   pub hand-refused : (x : Refusal) → a ≡ Refused x → HandsAs s container ais before (Refused x) before
   unfolding payloadCall
   hand-refused x e = rw (outcome-refused (payloadFaults s (length container) (length before)) _ _ x cc)
+
+  -- nothing is wrong: `strip` has the lengths it asks for
+  module _ (done : a ≡ Done) where
+    fine : Handable s (length container) (length before)
+    fine = handable s (length container) (length before) a is done
+
+    pub strip-payload : length before ≡ 9 * (s .columns - 1)
+    strip-payload = fine .payload-is
+
+    pub strip-container : Fit s → length container ≡ length before + 9
+    strip-container f = omega (arith, f .nine, f .some, f .two, fine .container-is, fine .payload-is)
 
   module _ (done : a ≡ Done) (after : List ℕ) where
     granted : after ≡ payloadHanded s container ais → HandsAs s container ais before Done after

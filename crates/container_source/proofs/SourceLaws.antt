@@ -2,7 +2,7 @@
 use mathlib.Core.Path.{_≡_, refl, ap, _∙_}
 use mathlib.Core.Bool.{Bool, true, false, not}
 use mathlib.Core.List.{List}
-use Prim.Native.Nat.{ℕ, _+_, _*_, _-_, _%_, _<_, _≤_}
+use Prim.Native.Nat.{ℕ, _+_, _*_, _-_, _%_, _^_, _<_, _≤_}
 use native.Mathlib.Omega.{arith}
 use lib.Dec.{eqb, ltb}
 use lib.ListN.{length}
@@ -94,10 +94,6 @@ module _ (s : Shape) (place label : ℕ) (trace : List ℕ) (payload container v
         violations-is = ltb-false 8 violations p6;
       }
 
-  -- so that `rows` has the lengths it asks for
-  pub rows-asks : Fit s → Sendable s place label trace payload container violations → (payload ≡ 9 * (s .columns - 1)) × (container ≡ payload + 9)
-  rows-asks f a = (a .payload-is, omega (arith, f .nine, f .some, f .two, a .payload-is, a .container-is))
-
 -- ---- the ends of `send`
 
 module _ (s : Shape) (state : State) (g : Given) (trace payload before : List ℕ) (a : Answer) (is : a ≡ answerOf (sendFaults s (state .place) (g .label) trace (length payload) (length before) (g .violations))) where
@@ -106,6 +102,26 @@ module _ (s : Shape) (state : State) (g : Given) (trace payload before : List �
   unfolding containerSource
   send-refused x e =
       rw (outcome-refused (sendFaults s (state .place) (g .label) trace (length payload) (length before) (g .violations)) _ _ x cc)
+
+  -- nothing is wrong: `overhead` and `rows` have what they ask for, and the next place is a byte
+  module _ (done : a ≡ Done) where
+    fine : Sendable s (state .place) (g .label) trace (length payload) (length before) (g .violations)
+    fine = sendable s (state .place) (g .label) trace (length payload) (length before) (g .violations) a is done
+
+    pub sent-place : state .place ≤ 15
+    sent-place = fine .place-is
+
+    pub sent-violations : g .violations ≤ 8
+    sent-violations = fine .violations-is
+
+    pub sent-payload : length payload ≡ 9 * (s .columns - 1)
+    sent-payload = fine .payload-is
+
+    pub sent-container : Fit s → length before ≡ length payload + 9
+    sent-container f = omega (arith, f .nine, f .some, f .two, fine .payload-is, fine .container-is)
+
+    pub next-fits : state .place + 1 < 2 ^ 8
+    next-fits = omega (arith, fine .place-is)
 
   -- sent: what the calls in it show, put together
   pub send-done :

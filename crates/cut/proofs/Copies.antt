@@ -42,9 +42,12 @@ pub kept-is : (unit held p : List ℕ) (begin left : ℕ) → p ≡ take (length
 kept-is unit held p begin left e = ap (λ (z : List ℕ). z ++ drop left held) (e ∙ rest-is unit begin)
 
 -- what is left over is the unit's end, and has its place in `held`
-pub keeps : (s : Shape) (kept from : ℕ) (unit held : List ℕ) (c : Cut) → Line s kept from → length unit ≡ unitLength s → length held ≡ s .size → c ≡ cutOf s kept from
-    → (length unit ≡ c .begin + c .rest) × (c .rest ≤ length held)
-keeps s kept from unit held c l u h e = rw (e, u, h) (rest-count s kept from l, rest-low s kept from l)
+module _ (s : Shape) (kept from : ℕ) (c : Cut) (l : Line s kept from) (c-is : c ≡ cutOf s kept from) where
+  pub rest-is-end : (unit : List ℕ) → length unit ≡ unitLength s → length unit ≡ c .begin + c .rest
+  rest-is-end unit u = rw (c-is, u) (rest-count s kept from l)
+
+  pub rest-fits : (held : List ℕ) → length held ≡ s .size → c .rest ≤ length held
+  rest-fits held h = rw (c-is, h) (rest-low s kept from l)
 
 -- one unit
 pub unit-cut : (s : Shape) (kept from : ℕ) (unit held done held′ done′ : List ℕ) (c : Cut) → c ≡ cutOf s kept from

@@ -1,13 +1,14 @@
 -- A cut stays within the unit and the buffers. Assumes nothing.
-use mathlib.Core.Path.{_≡_}
+use mathlib.Core.Path.{_≡_, refl}
 use mathlib.Core.Bool.{true}
-use Prim.Native.Nat.{ℕ, _+_, _*_, _≤_}
+use Prim.Native.Nat.{ℕ, _+_, _-_, _*_, _≤_}
 use native.Mathlib.Omega.{arith}
 use lib.Dec.{ltb, leb}
 use borrow.Author.Tests.{ltb-true, leb-true, leb-false}
 use Rattle.laws.proofs.Tests.{by-test}
 use Rattle.shape.specs.Shape.{Fit, unitLength}
 use Rattle.shape.specs.declared.Shape.{Shape}
+use Rattle.cut.specs.declared.Cut.{Cut}
 use Rattle.cut.specs.Cut.{Line, nextOf, insideOf, beginOf, cutOf}
 
 -- a place in the unit, and not before another
@@ -40,6 +41,21 @@ module _ (s : Shape) (kept from : ℕ) (l : Line s kept from) where
 
   pub begin-low : beginOf s (nextOf s kept from) ≤ unitLength s
   begin-low = begins .within
+
+  -- the same of the numbers that the code has for them
+  module _ (next : ℕ) (next-is : next ≡ nextOf s kept from) where
+    pub next-within : next ≤ unitLength s
+    next-within = rw next-is next-low
+
+    module _ (begin : ℕ) (begin-is : begin ≡ beginOf s next) where
+      pub begin-within : begin ≤ unitLength s
+      begin-within = rw (begin-is, next-is) begin-low
+
+      pub places-are : _≡_ {A = Cut}
+          (record { kept = kept; from = from; ends = ltb 0 kept; next = next; inside = leb next (3 * s .step); begin = begin; rest = unitLength s - begin })
+          (cutOf s kept from)
+      unfolding cutOf insideOf
+      places-are = rw (begin-is, next-is) refl
 
   -- the part of the unit that ends inside can be lent
   pub inside-fits : cutOf s kept from .inside ≡ true → cutOf s kept from .next + s .size ≤ unitLength s

@@ -24,9 +24,9 @@ shifted-lt r bit h k =
     (ltb-true (r * 2 + bit) 128)
     (λ _. xor-lt 7 (r * 2 + bit - 128) 9 (omega arith) (lit< tt))
 
-pub bytes-turn : (s : List ℕ) (i r p : ℕ) → i < length s → bytesIn r (drop i s) ≡ p → bytesIn (bitsIn 8 r (getD s i 0)) (drop (i + 1) s) ≡ p
+pub bytes-turn : (s : List ℕ) (i r q p : ℕ) → i < length s → q ≡ bitsIn 8 r (getD s i 0) → bytesIn r (drop i s) ≡ p → bytesIn q (drop (i + 1) s) ≡ p
 unfolding bytesIn
-bytes-turn s i r p h e = rw add-one (rw (drop-cons s i 0 h) at e)
+bytes-turn s i r q p h q-is e = rw (add-one, q-is) (rw (drop-cons s i 0 h) at e)
 
 pub bytes-end : (s : List ℕ) (i r p : ℕ) → length s ≤ i → bytesIn r (drop i s) ≡ p → r ≡ p
 unfolding bytesIn
@@ -67,10 +67,10 @@ module _ (x y : List ℕ) (i : ℕ) (all p : Bool) (l : length x ≡ length y) w
 -- ---- the host's trace check
 
 -- given 16 bytes, it is the test of the message; `&s[1..]` is this `take` of a `drop`
-pub trace-sixteen : (s : List ℕ) → length s ≡ 16 → goodMessage (getD s 0 0) (take (length s - 1) (drop 1 s)) ≡ traceCheck s
+pub trace-sixteen : (s : List ℕ) (r : Bool) → length s ≡ 16 → r ≡ goodMessage (getD s 0 0) (take (length s - 1) (drop 1 s)) → r ≡ traceCheck s
 unfolding traceCheck
-trace-sixteen [] h = absurd (omega arith)
-trace-sixteen (b ∷ bs) h = rw (take-all (suc (length bs) - 1) bs (omega arith), eq-eqb (length bs) 15 (omega arith))
+trace-sixteen [] r h r-is = absurd (omega arith)
+trace-sixteen (b ∷ bs) r h r-is = r-is ∙ rw (take-all (suc (length bs) - 1) bs (omega arith), eq-eqb (length bs) 15 (omega arith))
 
 pub trace-other : (s : List ℕ) → (length s ≡ 16 → ⊥) → false ≡ traceCheck s
 unfolding traceCheck

@@ -1,3 +1,4 @@
 pub mod Answers
 pub mod Writes
+pub mod Cases
 pub mod Opened

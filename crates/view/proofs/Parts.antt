@@ -7,7 +7,7 @@ use native.Mathlib.Omega.{arith}
 use lib.ListN.{length, take, drop, getD}
 use lib.Dec.{eqb}
 use lib.Seq.{take-all}
-use borrow.Author.Tests.{le-leb, lt-leb, ne-eqb}
+use borrow.Author.Tests.{le-leb, lt-leb, ne-eqb, not-true, not-false}
 use Rattle.cut.specs.Cut.{oneIf}
 use Rattle.receiving.specs.declared.Ended.{Ended}
 use Rattle.view.specs.View.{partOf, firstHanded, inOrder, containerHanded, Views}
@@ -39,15 +39,26 @@ pub part-fits : (buffer : List ℕ) (there : Bool) (place size : ℕ) → (there
 part-fits buffer true place size h = part-there buffer true place size refl (h refl)
 part-fits buffer false place size h = sym (part-none buffer false place size refl)
 
--- as it is lent, `&buffer[place..place + size]`
-pub part-lent : (buffer : List ℕ) (there : Bool) (place size : ℕ) → there ≡ true → place + size ≤ length buffer → take (place + size - place) (drop place buffer) ≡ partOf buffer there place size
-part-lent buffer there place size e h =
-    let n : place + size - place ≡ size = omega arith in
-    rw n (sym (part-there buffer there place size e h))
-
 -- the whole of a buffer that has as many bytes as a container
 pub part-whole : (buffer : List ℕ) (there : Bool) (size : ℕ) → length buffer ≡ size → partOf buffer there 0 size ≡ cond there buffer []
 part-whole buffer there size e = part-fits buffer there 0 size (λ _. omega arith) ∙ ap (λ (l : List ℕ). cond there l []) (take-all size buffer (omega arith))
+
+-- ---- what each test of `part` decides: no bytes, or those lent, `&buffer[place..place + size]`
+
+module _ (buffer : List ℕ) (there : Bool) (place size : ℕ) where
+  pub part-absent : not there ≡ true → [] ≡ partOf buffer there place size
+  part-absent a = part-none buffer there place size (not-true there a)
+
+  pub part-before : length buffer < place → [] ≡ partOf buffer there place size
+  part-before h = part-past buffer there place size (omega arith)
+
+  pub part-short : place ≤ length buffer → length buffer - place < size → [] ≡ partOf buffer there place size
+  part-short h k = part-past buffer there place size (omega arith)
+
+  pub part-lent : not there ≡ false → place ≤ length buffer → size ≤ length buffer - place → take (place + size - place) (drop place buffer) ≡ partOf buffer there place size
+  part-lent a h k =
+      let n : place + size - place ≡ size = omega arith in
+      rw n (sym (part-there buffer there place size (not-false there a) (omega arith)))
 
 -- ---- one of two
 

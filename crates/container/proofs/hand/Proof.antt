@@ -1,6 +1,5 @@
 -- `container::hand` meets its contract: a call that is refused leaves the payload as it was, and any other has the lengths that `strip` asks for. Assumes nothing.
-use lib.ListN.{length}
-use Rattle.container.proofs.PayloadLaws.{hand-refused, hand-ones, hand-payload, Handable, handable, strip-asks}
+use Rattle.container.proofs.PayloadLaws.{hand-refused, strip-payload, strip-container, hand-ones, hand-payload}
 use borrow.Author.Needs.{needs}
 use Rattle.container.proofs.hand.Statement.{statement}
 use Rattle.container.proofs.hand.Tie as tie
@@ -30,10 +29,7 @@ sub-strip : tie.Need-sub-strip
 sub-strip c = search needs
 
 strip-requires : tie.Need-strip-requires
-strip-requires c κs =
-    let a = c .before .before .before .before .before .before .before .before .args in
-    let h : Handable (a .shape) (length (a .container .now)) (length (a .payload .now)) = search handable in
-    strip-asks _ _ _ (search needs) h
+strip-requires c κs = search (strip-payload, strip-container)
 
 same-length-2 : tie.Need-same-length-2
 same-length-2 c = search needs

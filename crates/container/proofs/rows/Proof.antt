@@ -1,5 +1,5 @@
 -- `container::rows` meets its contract: the rows written, and those to come, are the container. Assumes nothing.
-use mathlib.Core.Path.{_≡_, refl, _∙_}
+use mathlib.Core.Path.{_≡_, refl}
 use mathlib.Core.List.{_++_}
 use Prim.Native.Nat.{_+_, _*_, _≤_, _-_}
 use native.Mathlib.Omega.{arith}
@@ -7,21 +7,29 @@ use borrow.Author.Needs.{needs}
 use lib.ListN.{length, take, drop}
 use Rattle.copier.proofs.Parts.{parts-alike}
 use Rattle.container.specs.Container.{rowsOf}
-use Rattle.container.proofs.RowLaws.{one-row, no-row, rows-length, rows-turn, rows-end}
+use Rattle.container.proofs.RowLaws.{row-room, room-left, left-next, rows-long, rows-turn, rows-end}
 use Rattle.container.proofs.rows.Statement.{statement}
 use Rattle.container.proofs.rows.Tie as tie
 
 abbrev Inv-loop : tie.InvT-loop
-Inv-loop width payload container₀ overhead row₀ from₀ to₀ container row from to = (row ≤ 9) × ((length overhead ≡ 9) × ((to ≡ from + row) × ((from + (9 - row) * width ≡ length payload) × ((length container ≡ length container₀) × (take to container ++ rowsOf width (drop row overhead) (drop from payload) ≡ rowsOf width overhead payload)))))
+Inv-loop width payload container₀ overhead row₀ from₀ to₀ container row from to =
+    (row ≤ 9)
+    × ((length overhead ≡ 9)
+    × ((to ≡ from + row)
+    × ((from + (9 - row) * width ≡ length payload)
+    × ((length container ≡ length container₀)
+    × (take to container ++ rowsOf width (drop row overhead) (drop from payload) ≡ rowsOf width overhead payload)))))
 
 abbrev μ-loop : tie.MeasureT-loop
 μ-loop width payload container₀ overhead row₀ from₀ to₀ container row from to = 9 - row
 
--- a row is left, so that there is room for one
-room : (c : tie.In-loop Inv-loop μ-loop) → (c .before .loop .to + 1 + c .before .before .before .before .args .width ≤ length (c .before .loop .container)) × (c .before .loop .from + c .before .before .before .before .args .width ≤ length (c .before .before .before .before .args .payload .now))
-room c =
-    let n = one-row (c .before .loop .row) (c .before .before .before .before .args .width) (omega arith) in
-    omega arith
+-- there is room for one more row
+room :
+    (c : tie.In-loop Inv-loop μ-loop) →
+    let l = c .before in
+    let a = l .before .before .before .args in
+    (l .loop .to + 1 + a .width ≤ length (l .loop .container)) × (l .loop .from + a .width ≤ length (a .payload .now))
+room c = (search row-room, search room-left)
 
 loop-holds : tie.Need-loop-holds Inv-loop μ-loop
 loop-holds c = (omega arith, (search needs, (refl, (omega arith, (refl, refl)))))
@@ -45,32 +53,22 @@ sub-copy : tie.Need-sub-copy Inv-loop μ-loop
 sub-copy c = omega arith
 
 part-copy-start : tie.Need-part-copy-start Inv-loop μ-loop
-part-copy-start c =
-    let r = room c in
-    search needs
+part-copy-start c = search needs
 
 part-copy-end : tie.Need-part-copy-end Inv-loop μ-loop
-part-copy-end c =
-    let r = room c in
-    search needs
+part-copy-end c = search (room-left, needs)
 
 sub-copy-2 : tie.Need-sub-copy-2 Inv-loop μ-loop
 sub-copy-2 c = omega arith
 
 part-copy-start-2 : tie.Need-part-copy-start-2 Inv-loop μ-loop
-part-copy-start-2 c =
-    let r = room (c .before) in
-    search needs
+part-copy-start-2 c = search needs
 
 part-copy-end-2 : tie.Need-part-copy-end-2 Inv-loop μ-loop
-part-copy-end-2 c =
-    let r = room (c .before) in
-    search needs
+part-copy-end-2 c = search (row-room, needs)
 
 copy-requires : tie.Need-copy-requires Inv-loop μ-loop
-copy-requires c κs =
-    let r = room (c .before .before) in
-    search (parts-alike, needs)
+copy-requires c κs = search (parts-alike, room-left, row-room, needs)
 
 add-row : tie.Need-add-row Inv-loop μ-loop
 add-row c = omega arith
@@ -79,37 +77,13 @@ loop-less : tie.Need-loop-less Inv-loop μ-loop
 loop-less c = omega arith
 
 loop-again : tie.Need-loop-again Inv-loop μ-loop
-loop-again c =
-    let l = c .before .before .before .before .before .before in
-    let a = l .before .before .before .args in
-    let r = room (c .before .before .before .before .before) in
-    let q = c .before .before .copy .last .1 .0 in
-    let is = c .before .before .copy .ensures in
-    let n = one-row (l .loop .row) (a .width) (omega arith) in (
-      omega arith,
-      (
-        l .loop .inv .1 .0,
-        (
-          omega arith,
-          (
-            omega arith,
-            (
-              rows-length (a .width) (a .t2) (a .payload .now) (l .loop .container) q (l .loop .container) (l .loop .row) (l .loop .from) (l .loop .to) (r .0) (r .1) is ∙ l .loop .inv .1 .1 .1 .1 .0,
-              rows-turn (a .width) (a .t2) (a .payload .now) (l .loop .container) q _ (l .loop .row) (l .loop .from) (l .loop .to) (omega arith) (r .0) (r .1) is (l .loop .inv .1 .1 .1 .1 .1),
-            ),
-          ),
-        ),
-      ),
-    )
+loop-again c = (omega arith, (search needs, (omega arith, (search left-next, (search rows-long, search rows-turn)))))
 
 same-length : tie.Need-same-length Inv-loop μ-loop
-same-length c = c .before .loop .inv .1 .1 .1 .1 .0
+same-length c = search needs
 
 returns : tie.Need-returns Inv-loop μ-loop
-returns c =
-    let l = c .before in
-    let a = l .before .before .before .args in
-    rows-end (a .width) (a .t2) (a .payload .now) (l .loop .container) (l .loop .container) _ (l .loop .row) (l .loop .from) (l .loop .to) (omega arith) (omega (arith, no-row (l .loop .row) (a .width) (omega arith))) (l .loop .inv .1 .1 .1 .1 .1)
+returns c = search rows-end
 
 pub rows-spec : {M : Type 1} → statement M
 rows-spec =

@@ -1,7 +1,5 @@
 -- `container_source::send` meets its contract: a call that is refused leaves all as it was, and any other has what `overhead` and `rows` ask for. Assumes nothing.
-use native.Mathlib.Omega.{arith}
-use lib.ListN.{length}
-use Rattle.container_source.proofs.SourceLaws.{send-refused, send-done, Sendable, sendable, rows-asks}
+use Rattle.container_source.proofs.SourceLaws.{send-refused, sent-place, sent-violations, sent-payload, sent-container, next-fits, send-done}
 use borrow.Author.Needs.{needs}
 use Rattle.container_source.proofs.send.Statement.{statement}
 use Rattle.container_source.proofs.send.Tie as tie
@@ -18,29 +16,20 @@ returns c = search send-refused
 enum-told : tie.Need-enum-told
 enum-told c = search needs
 
--- nothing is wrong with the call
-fine :
-    (c : tie.After-enum-told) →
-    let a = c .before .before .before .before .before .before .args in
-    Sendable (a .shape) (a .s .place) (a .g .label) (a .characters .now) (length (a .payload .now)) (length (a .container .now)) (a .g .violations)
-fine c = search sendable
-
 overhead-requires : tie.Need-overhead-requires
-overhead-requires c κs = (fine c .place-is, fine c .violations-is)
+overhead-requires c κs = search (sent-place, sent-violations)
 
 sub-rows : tie.Need-sub-rows
 sub-rows c = search needs
 
 rows-requires : tie.Need-rows-requires
-rows-requires c κs = rows-asks _ _ _ _ _ _ _ (search needs) (fine (c .before .before .before))
+rows-requires c κs = search (sent-payload, sent-container)
 
 parity-requires : tie.Need-parity-requires
 parity-requires c κs = search needs
 
 add-place : tie.Need-add-place
-add-place c =
-    let f = fine (c .before .before .before .before .before .before .before .before .before) in
-    omega arith
+add-place c = search next-fits
 
 same-length : tie.Need-same-length
 same-length c = search needs

@@ -1,5 +1,5 @@
 -- `cut::cut_unit` meets its contract: the cut, and what the two copies leave. Assumes nothing.
-use Rattle.cut.proofs.Copies.{keeps, unit-cut}
+use Rattle.cut.proofs.Copies.{rest-is-end, rest-fits, unit-cut}
 use borrow.Author.Needs.{needs}
 use Rattle.cut.proofs.cut_unit.Statement.{statement}
 use Rattle.cut.proofs.cut_unit.Tie as tie
@@ -11,10 +11,7 @@ complete-requires : tie.Need-complete-requires
 complete-requires c κs = search needs
 
 keep-requires : tie.Need-keep-requires
-keep-requires c κs =
-    let s = c .before .before .before .before .before .before .before .before .before .before in
-    let p = c .before .before .before .before .before .before .places in
-    keeps (s .args .shape) (s .args .kept) (s .args .from) (s .args .unit .now) (s .args .held .now) (p .result) (s .pre .0) (s .pre .1 .unit-is) (s .pre .1 .held-is) (p .ensures)
+keep-requires c κs = search (rest-is-end, rest-fits)
 
 same-length : tie.Need-same-length
 same-length c = search needs

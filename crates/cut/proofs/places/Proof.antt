@@ -1,6 +1,5 @@
 -- `cut::places` meets its contract: the callees' equations, and that a cut stays within the unit. Assumes nothing.
-use Rattle.cut.specs.Cut.{cutOf, insideOf}
-use Rattle.cut.proofs.Within.{next-low, begin-low}
+use Rattle.cut.proofs.Within.{next-within, begin-within, places-are}
 use borrow.Author.Needs.{needs}
 use Rattle.cut.proofs.places.Statement.{statement}
 use Rattle.cut.proofs.places.Tie as tie
@@ -9,7 +8,7 @@ next-place-requires : tie.Need-next-place-requires
 next-place-requires c κs = search needs
 
 begin-place-requires : tie.Need-begin-place-requires
-begin-place-requires c κs = (c .before .pre .fit, rw (c .next-place .ensures) (next-low (c .before .args .shape) (c .before .args .kept) (c .before .args .from) (c .before .pre)))
+begin-place-requires c κs = search (next-within, needs)
 
 mul-t7 : tie.Need-mul-t7
 mul-t7 c = search needs
@@ -21,16 +20,10 @@ add-t10 : tie.Need-add-t10
 add-t10 c = search needs
 
 sub-t11 : tie.Need-sub-t11
-sub-t11 c =
-    let d = c .before .before .before in
-    let s = d .before .before in
-    rw (d .begin-place .ensures, d .before .next-place .ensures) (begin-low (s .args .shape) (s .args .kept) (s .args .from) (s .pre))
+sub-t11 c = search begin-within
 
 returns : tie.Need-returns
-unfolding cutOf insideOf
-returns c =
-    let d = c .before .before .before in
-    rw (d .begin-place .ensures, d .before .next-place .ensures)
+returns c = search places-are
 
 pub places-spec : {M : Type 1} → statement M
 places-spec =

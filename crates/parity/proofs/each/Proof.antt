@@ -28,13 +28,10 @@ loop-less : tie.Need-loop-less Inv-loop μ-loop
 loop-less c = omega arith
 
 loop-again : tie.Need-loop-again Inv-loop μ-loop
-loop-again c =
-    let l = c .before .before in
-    (omega arith, parity-turn (l .before .args .s .now) (l .loop .acc) (l .loop .i) _ (c .before .loop-test .taken) (l .loop .inv .1))
+loop-again c = (omega arith, search parity-turn)
 
 returns : tie.Need-returns Inv-loop μ-loop
-returns c =
-    parity-end (c .before .before .args .s .now) (c .before .loop .acc) (c .before .loop .i) _ (c .loop-test .left) (c .before .loop .inv .1)
+returns c = search parity-end
 
 pub each-spec : {M : Type 1} → statement M
 each-spec =

@@ -1,5 +1,5 @@
 -- `shape::ended_by` meets its contract: a count for each case. Assumes nothing.
-use Rattle.shape.specs.Shape.{endedBy}
+use Rattle.shape.proofs.Cases.{ended-nothing, ended-increment, ended-decrement}
 use borrow.Author.Needs.{needs}
 use Rattle.shape.proofs.ended_by.Statement.{statement}
 use Rattle.shape.proofs.ended_by.Tie as tie
@@ -20,16 +20,13 @@ pick-requires-2 : tie.Need-pick-requires-2
 pick-requires-2 c κs = search needs
 
 returns : tie.Need-returns
-unfolding endedBy
-returns c = simp (c .enum-told .given .1)
+returns c = search ended-nothing
 
 returns-2 : tie.Need-returns-2
-unfolding endedBy
-returns-2 c = simp (c .before .enum-told2 .given .1, c .pick .ensures)
+returns-2 c = search ended-increment
 
 returns-3 : tie.Need-returns-3
-unfolding endedBy
-returns-3 c = simp (c .before .enum-told3 .given .1, c .pick2 .ensures)
+returns-3 c = search ended-decrement
 
 pub ended-by-spec : {M : Type 1} → statement M
 ended-by-spec =

@@ -1,5 +1,5 @@
 -- `shape::offset_after` meets its contract: an answer for each case. Assumes nothing.
-use Rattle.shape.specs.Shape.{offsetAfter}
+use Rattle.shape.proofs.Cases.{after-nothing, after-increment, after-decrement}
 use borrow.Author.Needs.{needs}
 use Rattle.shape.proofs.offset_after.Statement.{statement}
 use Rattle.shape.proofs.offset_after.Tie as tie
@@ -20,16 +20,13 @@ down-requires : tie.Need-down-requires
 down-requires c κs = search needs
 
 returns : tie.Need-returns
-unfolding offsetAfter
-returns c = simp (c .enum-told .given .1)
+returns c = search after-nothing
 
 returns-2 : tie.Need-returns-2
-unfolding offsetAfter
-returns-2 c = simp (c .before .enum-told2 .given .1, c .up .ensures)
+returns-2 c = search after-increment
 
 returns-3 : tie.Need-returns-3
-unfolding offsetAfter
-returns-3 c = simp (c .before .enum-told3 .given .1, c .down .ensures)
+returns-3 c = search after-decrement
 
 pub offset-after-spec : {M : Type 1} → statement M
 offset-after-spec =

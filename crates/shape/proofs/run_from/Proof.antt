@@ -1,5 +1,5 @@
 -- `shape::run_from` meets its contract: a place for each case. Assumes nothing.
-use Rattle.shape.specs.Shape.{runFrom}
+use Rattle.shape.proofs.Cases.{from-nothing, from-increment, from-decrement}
 use borrow.Author.Needs.{needs}
 use Rattle.shape.proofs.run_from.Statement.{statement}
 use Rattle.shape.proofs.run_from.Tie as tie
@@ -23,16 +23,13 @@ mul-result-3 : tie.Need-mul-result-3
 mul-result-3 c = search needs
 
 returns : tie.Need-returns
-unfolding runFrom
-returns c = simp (c .before .enum-told .given .1)
+returns c = search from-nothing
 
 returns-2 : tie.Need-returns-2
-unfolding runFrom
-returns-2 c = simp (c .before .enum-told2 .given .1)
+returns-2 c = search from-increment
 
 returns-3 : tie.Need-returns-3
-unfolding runFrom
-returns-3 c = simp (c .before .enum-told3 .given .1)
+returns-3 c = search from-decrement
 
 pub run-from-spec : {M : Type 1} → statement M
 run-from-spec =

@@ -2,6 +2,7 @@
 use mathlib.Core.Path.{_≡_, refl}
 use Prim.Native.Nat.{_<_, _≤_, _-_}
 use native.Mathlib.Omega.{arith}
+use borrow.Author.Needs.{needs}
 use lib.ListN.{length, drop}
 use Rattle.trace_message.specs.Register.{bytesIn}
 use Rattle.trace_message.proofs.Laws.{bytes-turn, bytes-end}
@@ -30,14 +31,10 @@ loop-less : tie.Need-loop-less Inv-loop μ-loop
 loop-less c = omega arith
 
 loop-again : tie.Need-loop-again Inv-loop μ-loop
-loop-again c =
-    let l = c .before .before .before in
-    (omega arith, (c .byte .ensures .1, rw (c .byte .ensures .0) (bytes-turn (l .before .before .args .s .now) (l .loop .i) (l .loop .r) _ (omega arith) (l .loop .inv .1 .1))))
+loop-again c = (omega arith, (search needs, search bytes-turn))
 
 returns : tie.Need-returns Inv-loop μ-loop
-returns c =
-    let l = c .before in
-    (bytes-end (l .before .before .args .s .now) (l .loop .i) (l .loop .r) _ (omega arith) (l .loop .inv .1 .1), l .loop .inv .1 .0)
+returns c = (search bytes-end, search needs)
 
 pub bytes-spec : {M : Type 1} → statement M
 bytes-spec =

@@ -1,5 +1,5 @@
 -- `trace_message::good_message` meets its contract: its two tests are the definition's. Assumes nothing.
-use Rattle.trace_message.specs.Message.{goodMessage}
+use Rattle.trace_message.proofs.Answers.{good-is}
 use borrow.Author.Needs.{needs}
 use Rattle.trace_message.proofs.good_message.Statement.{statement}
 use Rattle.trace_message.proofs.good_message.Tie as tie
@@ -11,8 +11,7 @@ start-byte-requires : tie.Need-start-byte-requires
 start-byte-requires c κs = search needs
 
 returns : tie.Need-returns
-unfolding goodMessage
-returns c = simp (c .before .top-bits-clear .ensures, c .start-byte .ensures)
+returns c = search good-is
 
 pub good-message-spec : {M : Type 1} → statement M
 good-message-spec = tie.close (tie.spec top-bits-clear-requires start-byte-requires returns)

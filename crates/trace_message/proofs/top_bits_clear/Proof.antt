@@ -21,9 +21,7 @@ shared-slice-read-if1 : tie.Need-shared-slice-read-if1 Inv-loop μ-loop
 shared-slice-read-if1 c = omega arith
 
 returns : tie.Need-returns Inv-loop μ-loop
-returns c =
-    let l = c .before .before .before in
-    clear-not (l .before .args .s .now) (l .loop .i) _ (omega arith) (omega arith) (l .loop .inv .1)
+returns c = search clear-not
 
 add-i : tie.Need-add-i Inv-loop μ-loop
 add-i c = omega arith
@@ -32,12 +30,10 @@ loop-less : tie.Need-loop-less Inv-loop μ-loop
 loop-less c = omega arith
 
 loop-again : tie.Need-loop-again Inv-loop μ-loop
-loop-again c =
-    let l = c .before .before .before in
-    (omega arith, clear-turn (l .before .args .s .now) (l .loop .i) _ (omega arith) (omega arith) (l .loop .inv .1))
+loop-again c = (omega arith, search clear-turn)
 
 returns-2 : tie.Need-returns-2 Inv-loop μ-loop
-returns-2 c = clear-end (c .before .before .args .s .now) (c .before .loop .i) _ (omega arith) (c .before .loop .inv .1)
+returns-2 c = search clear-end
 
 pub top-bits-clear-spec : {M : Type 1} → statement M
 top-bits-clear-spec =

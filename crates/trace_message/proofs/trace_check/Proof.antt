@@ -1,12 +1,11 @@
 -- `trace_message::trace_check` meets its contract: of 16 bytes the first is the start byte and the rest are the characters. Assumes nothing.
-use native.Mathlib.Omega.{arith}
 use Rattle.trace_message.proofs.Laws.{trace-sixteen, trace-other}
 use borrow.Author.Needs.{needs}
 use Rattle.trace_message.proofs.trace_check.Statement.{statement}
 use Rattle.trace_message.proofs.trace_check.Tie as tie
 
 returns : tie.Need-returns
-returns c = trace-other (c .before .before .args .s .now) (search needs)
+returns c = search trace-other
 
 shared-slice-read-good-message : tie.Need-shared-slice-read-good-message
 shared-slice-read-good-message c = search needs
@@ -24,8 +23,7 @@ good-message-requires : tie.Need-good-message-requires
 good-message-requires c κs = search needs
 
 returns-2 : tie.Need-returns-2
-returns-2 c =
-    simp (c .good-message .ensures, ← (trace-sixteen (c .before .before .before .before .before .args .s .now) (omega arith)))
+returns-2 c = search trace-sixteen
 
 pub trace-check-spec : {M : Type 1} → statement M
 trace-check-spec =

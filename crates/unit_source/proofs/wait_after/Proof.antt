@@ -1,5 +1,5 @@
 -- `unit_source::wait_after` meets its contract: an answer for each case. Assumes nothing.
-use Rattle.unit_source.specs.Source.{sourceWaitAfter}
+use Rattle.unit_source.proofs.Cases.{wait-nothing, wait-increment, wait-decrement}
 use borrow.Author.Needs.{needs}
 use Rattle.unit_source.proofs.wait_after.Statement.{statement}
 use Rattle.unit_source.proofs.wait_after.Tie as tie
@@ -17,16 +17,13 @@ enum-told-3 : tie.Need-enum-told-3
 enum-told-3 c = search needs
 
 returns : tie.Need-returns
-unfolding sourceWaitAfter
-returns c = simp (c .before .enum-told .given .1) (c .one-more .ensures)
+returns c = search wait-nothing
 
 returns-2 : tie.Need-returns-2
-unfolding sourceWaitAfter
-returns-2 c = simp (c .enum-told2 .given .1)
+returns-2 c = search wait-increment
 
 returns-3 : tie.Need-returns-3
-unfolding sourceWaitAfter
-returns-3 c = simp (c .enum-told3 .given .1)
+returns-3 c = search wait-decrement
 
 pub wait-after-spec : {M : Type 1} → statement M
 wait-after-spec =

@@ -1,5 +1,5 @@
 -- `unit_source::word_sent` meets its contract: a word for each case. Assumes nothing.
-use Rattle.unit_source.specs.Source.{wordSent}
+use Rattle.unit_source.proofs.Cases.{word-nothing, word-increment, word-decrement}
 use borrow.Author.Needs.{needs}
 use Rattle.unit_source.proofs.word_sent.Statement.{statement}
 use Rattle.unit_source.proofs.word_sent.Tie as tie
@@ -23,16 +23,13 @@ adjusting-requires-2 : tie.Need-adjusting-requires-2
 adjusting-requires-2 c κs = search needs
 
 returns : tie.Need-returns
-unfolding wordSent
-returns c = simp (c .before .enum-told .given .1) (c .plain .ensures)
+returns c = search word-nothing
 
 returns-2 : tie.Need-returns-2
-unfolding wordSent
-returns-2 c = simp (c .before .enum-told2 .given .1) (c .adjusting .ensures)
+returns-2 c = search word-increment
 
 returns-3 : tie.Need-returns-3
-unfolding wordSent
-returns-3 c = simp (c .before .enum-told3 .given .1) (c .adjusting2 .ensures)
+returns-3 c = search word-decrement
 
 pub word-sent-spec : {M : Type 1} → statement M
 word-sent-spec =

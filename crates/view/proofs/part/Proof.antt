@@ -1,7 +1,5 @@
 -- `view::part` meets its contract: no bytes, or those asked for. Assumes nothing.
-use native.Mathlib.Omega.{arith}
-use borrow.Author.Tests.{not-true, not-false}
-use Rattle.view.proofs.Parts.{part-none, part-past, part-lent}
+use Rattle.view.proofs.Parts.{part-absent, part-before, part-short, part-lent}
 use borrow.Author.Needs.{needs}
 use Rattle.view.proofs.part.Statement.{statement}
 use Rattle.view.proofs.part.Tie as tie
@@ -10,17 +8,13 @@ slice-aggregate-result : tie.Need-slice-aggregate-result
 slice-aggregate-result c = search needs
 
 returns : tie.Need-returns
-returns c =
-    let s = c .before .before in
-    part-none (s .args .buffer .now) (s .args .there) (s .args .place) (s .args .size) (not-true (s .args .there) (c .before .if1 .taken))
+returns c = search part-absent
 
 slice-aggregate-result-2 : tie.Need-slice-aggregate-result-2
 slice-aggregate-result-2 c = search needs
 
 returns-2 : tie.Need-returns-2
-returns-2 c =
-    let s = c .before .before .before in
-    part-past (s .args .buffer .now) (s .args .there) (s .args .place) (s .args .size) (omega arith)
+returns-2 c = search part-before
 
 sub-if3 : tie.Need-sub-if3
 sub-if3 c = search needs
@@ -29,9 +23,7 @@ slice-aggregate-result-3 : tie.Need-slice-aggregate-result-3
 slice-aggregate-result-3 c = search needs
 
 returns-3 : tie.Need-returns-3
-returns-3 c =
-    let s = c .before .before .before .before in
-    part-past (s .args .buffer .now) (s .args .there) (s .args .place) (s .args .size) (omega arith)
+returns-3 c = search part-short
 
 add-e : tie.Need-add-e
 add-e c = search needs
@@ -46,9 +38,7 @@ part-result-end : tie.Need-part-result-end
 part-result-end c = search needs
 
 returns-4 : tie.Need-returns-4
-returns-4 c =
-    let s = c .before .before .before .before in
-    part-lent (s .args .buffer .now) (s .args .there) (s .args .place) (s .args .size) (not-false (s .args .there) (c .before .before .before .if1 .left)) (omega arith)
+returns-4 c = search part-lent
 
 pub part-spec : {M : Type 1} → statement M
 part-spec =
