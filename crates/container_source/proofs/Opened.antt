@@ -2,15 +2,14 @@
 use Prim.{Unit, tt}
 use Rattle.parity.specs.Parity.{parityOf}
 use Rattle.trace_message.proofs.Opened as message
-use Rattle.settings.specs.Settings.{labelRefused, outside, traceRefused}
-use Rattle.refusals.specs.Refusals.{numberOf, answerNumber, due, answerOf, outcome}
+use Rattle.settings.proofs.Opened as settings
 use Rattle.container.specs.Container.{rowsOf, headsOf}
 use Rattle.container_source.specs.Overhead.{j1Of, g1Of, overheadOf}
 use Rattle.container_source.specs.Source.{sendFaults, containerSent, containerSourceAfter, containerSource}
 
 -- what is refused
 unfoldable pub refusals : Unit {0}
-unfolding labelRefused outside traceRefused numberOf answerNumber due answerOf outcome sendFaults
+unfolding settings.opened sendFaults
 refusals = tt
 
 unfoldable pub opened : Unit {0}

@@ -1,20 +1,22 @@
 -- What a call of the source has to show at each of its ends, and what a call with nothing wrong has shown. Assumes nothing.
-use mathlib.Core.Path.{_≡_, refl, ap, _∙_}
+use mathlib.Core.Path.{_≡_, refl, sym, ap, _∙_}
 use mathlib.Core.Bool.{Bool, true, false, not}
-use mathlib.Core.List.{List}
+use mathlib.Core.List.{List, [], _++_}
 use Prim.Native.Nat.{ℕ, _+_, _*_, _-_, _%_, _^_, _<_, _≤_}
 use native.Mathlib.Omega.{arith}
 use lib.Dec.{eqb, ltb}
 use lib.ListN.{length}
 use borrow.Author.Tests.{lt-ltb, le-ltb, eq-eqb, ne-eqb, eqb-true, not-false, ltb-false}
 use Rattle.parity.specs.Parity.{parityOf}
-use Rattle.settings.specs.Settings.{labelRefused, traceRefused}
-use Rattle.refusals.specs.Refusals.{Fault, due, numberOf, says, answerSays, answerOf}
+use Rattle.settings.specs.Faults.{pathFaults}
+use Rattle.settings.proofs.Refuses.{path-numbered}
+use Rattle.refusals.specs.Refusals.{Fault, given, due, numberOf, says, answerSays, answerOf}
 use Rattle.refusals.specs.declared.Refusal.{Refusal}
 use Rattle.refusals.specs.declared.Refusal.the-variants as wrong
 use Rattle.refusals.specs.declared.Answer.{Answer}
 use Rattle.refusals.specs.declared.Answer.the-variants.{Done, Refused}
-use Rattle.refusals.proofs.Wrong.{due-none, due-false, none-wrong, outcome-done, outcome-refused, Numbered, numbered-row, numbered-last, outcome-said}
+use Rattle.refusals.proofs.Wrong.{due-none, due-false, none-wrong, outcome-done, outcome-refused, Numbered, numbered-row, numbered-both, numbered-last, outcome-said}
+use Rattle.refusals.proofs.Joined.{joined-refused, joined-done, joined-none}
 use Rattle.shape.specs.Shape.{Fit}
 use Rattle.shape.specs.declared.Shape.{Shape}
 use Rattle.container.specs.Container.{payloadSize, rowsOf}
@@ -27,8 +29,7 @@ use Rattle.container_source.specs.declared.Sent.{Sent}
 -- no row of the table applies
 pub record Sendable (s : Shape) (place label : ℕ) (trace : List ℕ) (payload container violations : ℕ) : Type 0 where
   pub place-is : place ≤ 15
-  pub label-is : labelRefused label ≡ false
-  pub trace-is : traceRefused trace ≡ false
+  pub path-is : pathFaults label trace ≡ []
   pub payload-is : payload ≡ payloadSize (s .columns)
   pub container-is : container ≡ s .size
   pub violations-is : violations ≤ 8
@@ -39,56 +40,62 @@ module _ (s : Shape) (place label : ℕ) (trace : List ℕ) (payload container v
   abbrev faults : List (Fault Refusal)
   faults = sendFaults s place label trace payload container violations
 
+  -- what is asked after label and trace
+  abbrev lengths : List (Fault Refusal)
+  lengths =
+      given 2 wrong.Payload (not (eqb payload (payloadSize (s .columns))))
+      ++ (given 3 wrong.Container (not (eqb container (s .size)))
+      ++ given 6 wrong.Violations (ltb 8 violations))
+
   pub answer-state : 15 < place → Refused wrong.State ≡ answerOf faults
   unfolding sendFaults due answerOf
   answer-state h = rw (lt-ltb 15 place h)
 
-  module _ (in-range : place ≤ 15) (l : Bool) (is-l : l ≡ labelRefused label) where
-    pub answer-label : l ≡ true → Refused wrong.Label ≡ answerOf faults
-    unfolding sendFaults due answerOf
-    answer-label e = rw (le-ltb 15 place in-range, ← is-l, e)
+  module _ (in-range : place ≤ 15) where
+    path-next : answerOf faults ≡ answerOf (pathFaults label trace ++ lengths)
+    unfolding sendFaults due
+    path-next = rw (le-ltb 15 place in-range) refl
 
-    module _ (l-no : l ≡ false) (t : Bool) (is-t : t ≡ traceRefused trace) where
-      pub answer-trace : t ≡ true → Refused wrong.Trace ≡ answerOf faults
-      unfolding sendFaults due answerOf
-      answer-trace e = rw (le-ltb 15 place in-range, ← is-l, l-no, ← is-t, e)
+    module _ (r : Answer) (is-r : r ≡ answerOf (pathFaults label trace)) where
+      pub answer-path : (x : Refusal) → r ≡ Refused x → Refused x ≡ answerOf faults
+      answer-path x h = sym (path-next ∙ joined-refused (pathFaults label trace) lengths x (sym is-r ∙ h))
 
-      module _ (t-no : t ≡ false) where
+      module _ (r-no : r ≡ Done) where
+        lengths-next : answerOf faults ≡ answerOf lengths
+        lengths-next = path-next ∙ joined-done (pathFaults label trace) lengths (sym is-r ∙ r-no)
+
         pub answer-payload : (payload ≡ 9 * (s .columns - 1) → ⊥) → Refused wrong.Payload ≡ answerOf faults
-        unfolding sendFaults due answerOf
-        answer-payload h = rw (le-ltb 15 place in-range, ← is-l, l-no, ← is-t, t-no, ne-eqb payload (9 * (s .columns - 1)) h)
+        unfolding due answerOf
+        answer-payload h = sym (lengths-next ∙ rw (ne-eqb payload (9 * (s .columns - 1)) h) refl)
 
         module _ (full : payload ≡ 9 * (s .columns - 1)) where
           pub answer-container : (container ≡ s .size → ⊥) → Refused wrong.Container ≡ answerOf faults
-          unfolding sendFaults due answerOf
-          answer-container h =
-              rw (le-ltb 15 place in-range, ← is-l, l-no, ← is-t, t-no, eq-eqb payload (9 * (s .columns - 1)) full, ne-eqb container (s .size) h)
+          unfolding due answerOf
+          answer-container h = sym (lengths-next ∙ rw (eq-eqb payload (9 * (s .columns - 1)) full, ne-eqb container (s .size) h) refl)
 
           module _ (room : container ≡ s .size) where
             pub answer-violations : 8 < violations → Refused wrong.Violations ≡ answerOf faults
-            unfolding sendFaults due answerOf
+            unfolding due answerOf
             answer-violations h =
-                rw (le-ltb 15 place in-range, ← is-l, l-no, ← is-t, t-no, eq-eqb payload (9 * (s .columns - 1)) full, eq-eqb container (s .size) room, lt-ltb 8 violations h)
+                sym (lengths-next ∙ rw (eq-eqb payload (9 * (s .columns - 1)) full, eq-eqb container (s .size) room, lt-ltb 8 violations h) refl)
 
             pub answer-done : violations ≤ 8 → Done ≡ answerOf faults
-            unfolding sendFaults due answerOf
+            unfolding due answerOf
             answer-done h =
-                rw (le-ltb 15 place in-range, ← is-l, l-no, ← is-t, t-no, eq-eqb payload (9 * (s .columns - 1)) full, eq-eqb container (s .size) room, le-ltb 8 violations h)
+                sym (lengths-next ∙ rw (eq-eqb payload (9 * (s .columns - 1)) full, eq-eqb container (s .size) room, le-ltb 8 violations h) refl)
 
   -- a call that is done had nothing wrong with it
   pub sendable : (a : Answer) → a ≡ answerOf faults → a ≡ Done → Sendable s place label trace payload container violations
   unfolding sendFaults
   sendable a e d =
       let p1 = due-none (ltb 15 place) _ _ (none-wrong faults cc) in
-      let p2 = due-none (labelRefused label) _ _ (p1 .1) in
-      let p3 = due-none (traceRefused trace) _ _ (p2 .1) in
-      let p4 = due-none (not (eqb payload (payloadSize (s .columns)))) _ _ (p3 .1) in
+      let p2 = joined-none (pathFaults label trace) lengths (p1 .1) in
+      let p4 = due-none (not (eqb payload (payloadSize (s .columns)))) _ _ (p2 .1) in
       let p5 = due-none (not (eqb container (s .size))) _ _ (p4 .1) in
       let p6 = due-false (ltb 8 violations) _ (p5 .1) in
       record {
         place-is = ltb-false 15 place (p1 .0);
-        label-is = p2 .0;
-        trace-is = p3 .0;
+        path-is = p2 .0;
         payload-is = eqb-true payload (payloadSize (s .columns)) (not-false (eqb payload (payloadSize (s .columns))) (p4 .0));
         container-is = eqb-true container (s .size) (not-false (eqb container (s .size)) (p5 .0));
         violations-is = ltb-false 8 violations p6;
@@ -140,7 +147,7 @@ module _ (s : Shape) (state : State) (g : Given) (trace payload before : List �
 -- each row has its case's number
 pub send-numbered : (s : Shape) (place label : ℕ) (trace : List ℕ) (payload container violations : ℕ) → Numbered says (sendFaults s place label trace payload container violations)
 unfolding sendFaults says numberOf
-send-numbered s place label trace payload container violations = search (numbered-row, numbered-last) depth 8
+send-numbered s place label trace payload container violations = search (numbered-row, numbered-both, numbered-last, path-numbered) depth 8
 
 -- so the answer says the table's
 pub send-said : (s : Shape) (state : State) (g : Given) (trace payload before : List ℕ) (r : Sent) (after : List ℕ) → SendsAs s state g trace payload before r after → Sends s state g trace payload before r after

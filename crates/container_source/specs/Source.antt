@@ -6,7 +6,7 @@ use mathlib.Core.List.{List, [], _∷_, _++_}
 use lib.Dec.{eqb, ltb}
 use lib.ListN.{length}
 use Rattle.parity.specs.Parity.{parityOf}
-use Rattle.settings.specs.Settings.{labelRefused, traceRefused}
+use Rattle.settings.specs.Faults.{pathFaults}
 use Rattle.refusals.specs.Refusals.{Fault, answerSays, given, saidBy, outcome}
 use Rattle.refusals.specs.declared.Refusal.{Refusal}
 use Rattle.refusals.specs.declared.Refusal.the-variants as wrong
@@ -22,15 +22,14 @@ use Rattle.container_source.specs.declared.Sent.{Sent}
 abbrev pub freshContainerSource : State
 freshContainerSource = record { place = 0; parity = 0 }
 
--- what is refused: "Container source: 8, 4, 5, 2, 3, 6". Of payload and container the lengths count.
+-- what is refused: "Container source: 8, 4, 5, 2, 3, 6", 4 and 5 of label and trace. Of payload and container the lengths count.
 unfoldable pub sendFaults : Shape → ℕ → ℕ → List ℕ → ℕ → ℕ → ℕ → List (Fault Refusal)
 sendFaults s place label trace payload container violations =
     given 8 wrong.State (ltb 15 place)
-    ++ (given 4 wrong.Label (labelRefused label)
-    ++ (given 5 wrong.Trace (traceRefused trace)
+    ++ (pathFaults label trace
     ++ (given 2 wrong.Payload (not (eqb payload (payloadSize (s .columns))))
     ++ (given 3 wrong.Container (not (eqb container (s .size)))
-    ++ given 6 wrong.Violations (ltb 8 violations)))))
+    ++ given 6 wrong.Violations (ltb 8 violations))))
 
 -- the container that is sent
 unfoldable pub containerSent : Shape → State → Given → List ℕ → List ℕ → List ℕ

@@ -100,11 +100,11 @@ fn answer(
     if 15 < place {
         return Answer::Refused(Refusal::State);
     }
-    if settings::label_refused(label) {
-        return Answer::Refused(Refusal::Label);
-    }
-    if settings::trace_refused(&characters) {
-        return Answer::Refused(Refusal::Trace);
+    match settings::path_answer(label, &characters) {
+        Answer::Refused(x) => {
+            return Answer::Refused(x);
+        }
+        Answer::Done => {}
     }
     if payload != full {
         return Answer::Refused(Refusal::Payload);

@@ -10,7 +10,8 @@ use Rattle.refusals.specs.Refusals.{Fault, answerOf}
 use Rattle.refusals.specs.declared.Refusal.{Refusal}
 use Rattle.refusals.specs.declared.Answer.{Answer}
 use Rattle.refusals.specs.declared.Answer.the-variants.{Done, Refused}
-use Rattle.refusals.proofs.Wrong.{outcome-answer, outcome-done, outcome-refused}
+use Rattle.refusals.proofs.Wrong.{none-done, outcome-answer, outcome-done, outcome-refused}
+use Rattle.settings.specs.Faults.{pathFaults}
 use Rattle.shape.specs.Shape.{Fit}
 use Rattle.shape.specs.declared.Shape.{Shape}
 use Rattle.container.specs.Payload.{payloadFaults, payloadHanded, Handed, payloadCall}
@@ -61,7 +62,7 @@ module _ (s : Shape) (state : State) (g : Given) (trace payload before : List �
 
   pub sendable-source : Sendable s (state .place) (g .label) trace (length payload) (length before) (g .violations) → containerSource s state g trace payload before .sent .answer ≡ Done
   sendable-source a =
-      source-answer ∙ sym (source-laws.answer-done s (state .place) (g .label) trace (length payload) (length before) (g .violations) (a .place-is) false (sym (a .label-is)) refl false (sym (a .trace-is)) refl (a .payload-is) (a .container-is) (a .violations-is))
+      source-answer ∙ sym (source-laws.answer-done s (state .place) (g .label) trace (length payload) (length before) (g .violations) (a .place-is) (answerOf (pathFaults (g .label) trace)) refl (none-done (pathFaults (g .label) trace) (a .path-is)) (a .payload-is) (a .container-is) (a .violations-is))
 
 -- ---- the payload call
 

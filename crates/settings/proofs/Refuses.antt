@@ -61,7 +61,7 @@ pub fine-trace : (e : Settings) → settingsFaults e ≡ [] → traceRefused (e 
 unfolding settingsFaults pathFaults
 fine-trace e h = due-false (traceRefused (e .trace)) _ (due-none (labelRefused (e .label)) _ _ h .1)
 
--- and settings of which neither is are such
-pub settings-fine : (e : Settings) → labelRefused (e .label) ≡ false → traceRefused (e .trace) ≡ false → settingsFaults e ≡ []
-unfolding settingsFaults pathFaults due
-settings-fine e l t = rw (l, t) refl
+-- and where neither is, nothing is wrong
+pub path-fine : (label : ℕ) (trace : List ℕ) → labelRefused label ≡ false → traceRefused trace ≡ false → pathFaults label trace ≡ []
+unfolding pathFaults due
+path-fine label trace l t = rw (l, t) refl

@@ -7,7 +7,7 @@ use Prim.Native.Nat.{ℕ, zero, suc, _+_, _%_, _≤_, _<_}
 use native.Mathlib.Omega.{arith}
 use lib.ListN.{length}
 use Rattle.settings.specs.Faults.{settingsFaults}
-use Rattle.settings.proofs.Refuses.{fine-label, fine-trace}
+use Rattle.settings.proofs.Refuses.{fine-label, fine-trace, path-fine}
 use Rattle.refusals.specs.declared.Answer.the-variants.{Done}
 use Rattle.shape.specs.Shape.{Fit}
 use Rattle.shape.specs.declared.Shape.{Shape}
@@ -39,8 +39,7 @@ module _ (s : Shape) (f : Fit s) (m : Making) (label : ℕ) (e : Settings) (low 
         sendable-source s (state k) (c .given) (c .trace) (c .payload) (c .lent)
         (record {
           place-is = made-low s (m .first) (m .calls) k low;
-          label-is = rw (g .label-is) (fits-fine label (e .label) fitting (fine-label e fine));
-          trace-is = rw (g .trace-is) (fine-trace e fine);
+          path-is = rw (g .label-is, g .trace-is) (path-fine label (e .trace) (fits-fine label (e .label) fitting (fine-label e fine)) (fine-trace e fine));
           payload-is = g .payload-is;
           container-is = g .container-is;
           violations-is = g .violations-low;

@@ -10,7 +10,6 @@ use borrow.Author.Tests.{eqb-true}
 use Rattle.laws.proofs.Tables.{every, every-at}
 use Rattle.parity.specs.Parity.{parityOf}
 use Rattle.trace_message.specs.Message as of-check
-use Rattle.settings.specs.Settings.{labelRefused, outside, traceRefused}
 use Rattle.settings.proofs.Opened as settings
 use Rattle.settles_monitor.proofs.Labels.{fits-own}
 use Rattle.refusals.specs.Refusals as of-refusals
@@ -60,10 +59,10 @@ module _ (p : ℕ) (low : p ≤ 15) where
   here k = record { place = (p + k) % 16; parity = 0 }
 
   fine : (k : ℕ) → container-source.containerSource au4 (here k) (given ((p + k) % 16)) trace (replicate 2340 0) (replicate 2349 0) .sent .answer ≡ Done
-  unfolding given trace labelRefused outside traceRefused
+  unfolding given trace settings.opened
   fine k =
       sendable-source au4 (here k) (given ((p + k) % 16)) trace (replicate 2340 0) (replicate 2349 0)
-      (record { place-is = omega arith; label-is = refl; trace-is = refl; payload-is = refl; container-is = refl; violations-is = omega arith })
+      (record { place-is = omega arith; path-is = refl; payload-is = refl; container-is = refl; violations-is = omega arith })
 
   state-is : (k : ℕ) → stateAt au4 first (callsFrom p) k ≡ here k
   unfolding stateAt call containerSourceAfter
