@@ -9,16 +9,16 @@ use unit_end::Actions;
 use unit_end::Causes;
 use unit_end::Defects;
 
-fn say_state(s: pointer_rules::State) {
+fn say_state(s: pointer_state::State) {
     match s {
-        pointer_rules::State::Normal(offset) => {
+        pointer_state::State::Normal(offset) => {
             say::text(b"ok st=normal off=");
             say::decimal(offset as u64);
         }
-        pointer_rules::State::Alarm => {
+        pointer_state::State::Alarm => {
             say::text(b"ok st=alarm off=-");
         }
-        pointer_rules::State::Lost => {
+        pointer_state::State::Lost => {
             say::text(b"ok st=lost off=-");
         }
     }

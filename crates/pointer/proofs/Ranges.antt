@@ -14,13 +14,14 @@ use Rattle.shape.specs.declared.Adjustment.{Adjustment}
 use Rattle.shape.specs.declared.Adjustment.the-variants as offset
 use Rattle.shape.proofs.Offsets.{after-low}
 use Rattle.pointer_rules.specs.Rules.{runAfter, restarts, adjustmentOf}
-use Rattle.pointer_rules.specs.declared.State.{State}
-use Rattle.pointer_rules.specs.declared.State.the-variants.{Normal, Alarm, Lost}
+use Rattle.pointer_state.specs.declared.State.{State}
+use Rattle.pointer_state.specs.declared.State.the-variants.{Normal, Alarm, Lost}
 use Rattle.pointer_rules.specs.declared.Taken.{Taken}
-use Rattle.pointer_rules.specs.declared.Taken.the-variants.{AlarmWord, NewData, Resync, Plain, Increment, Decrement, Nothing, Invalid}
+use Rattle.pointer_rules.specs.declared.Taken.the-variants.{AlarmWord, NewData, Resync, Adjusted, Plain, Invalid}
 use Rattle.pointer_rules.specs.declared.Run.{Run}
 use Rattle.pointer_rules.proofs.Names.{Moved, Names, good-low, taken-names}
-use Rattle.pointer.specs.Machine.{freshPointer, rowsAfter, alarmWord, renewed, newData, invalid, stateAfter, isNormal, offsetOf, waitAfter, takenIn, pointerAfter, pointerStep, placed, rowsIn, runIn, pointerInRange}
+use Rattle.pointer_state.specs.State.{isNormal, offsetOf, placed}
+use Rattle.pointer.specs.Machine.{freshPointer, rowsAfter, alarmWord, renewed, newData, invalid, stateAfter, waitAfter, takenIn, pointerAfter, pointerStep, rowsIn, runIn, pointerInRange}
 use Rattle.pointer.specs.declared.Rows.{Rows}
 use Rattle.pointer.specs.declared.Pointer.{Pointer}
 
@@ -53,9 +54,7 @@ state-placed top Alarm rows (NewData v) h n = by-test (λ (q : State). placed to
 state-placed top Lost rows (NewData v) h n = refl
 state-placed top state rows (Resync v) h n = le-leb v top n
 state-placed top state rows Plain h n = h
-state-placed top state rows (Increment v) h n = le-leb v top (moved-low top offset.Increment state v h n)
-state-placed top state rows (Decrement v) h n = le-leb v top (moved-low top offset.Decrement state v h n)
-state-placed top state rows Nothing h n = h
+state-placed top state rows (Adjusted a v) h n = le-leb v top (moved-low top a state v h n)
 state-placed top state rows Invalid h n = by-test (λ (q : State). placed top q ≡ true) (leb 8 (rows .invalids)) (λ _. refl) (λ _. h)
 
 -- ---- the counts
@@ -69,9 +68,7 @@ rows-in rows AlarmWord = rw (more-in (rows .alarms) 3)
 rows-in rows (NewData v) = rw (more-in (rows .news) 8)
 rows-in rows (Resync v) = refl
 rows-in rows Plain = refl
-rows-in rows (Increment v) = refl
-rows-in rows (Decrement v) = refl
-rows-in rows Nothing = refl
+rows-in rows (Adjusted a v) = refl
 rows-in rows Invalid = rw (more-in (rows .invalids) 8)
 
 run-in : (run : Run) (top w : ℕ) → runIn top (runAfter run top w) ≡ true
@@ -89,9 +86,7 @@ wait-le wait state AlarmWord = omega arith
 wait-le wait state (NewData v) = by-test (λ (n : ℕ). n ≤ 3) (isNormal state) (λ _. omega arith) (λ _. omega arith)
 wait-le wait state (Resync v) = omega arith
 wait-le wait state Plain = omega arith
-wait-le wait state (Increment v) = omega arith
-wait-le wait state (Decrement v) = omega arith
-wait-le wait state Nothing = omega arith
+wait-le wait state (Adjusted a v) = omega arith
 wait-le wait state Invalid = omega arith
 
 -- ---- pointerInRange
@@ -144,9 +139,7 @@ state-goes top state rows AlarmWord n r =
 state-goes top state rows (NewData v) n r = absurd (false≢true (sym r))
 state-goes top state rows (Resync v) n r = absurd (false≢true (sym r))
 state-goes top state rows Plain n r = stays top state
-state-goes top state rows (Increment v) n r = λ _. goes top offset.Increment state v n
-state-goes top state rows (Decrement v) n r = λ _. goes top offset.Decrement state v n
-state-goes top state rows Nothing n r = stays top state
+state-goes top state rows (Adjusted a v) n r = λ _. goes top a state v n
 state-goes top state rows Invalid n r =
     by-test (λ (q : State). isNormal q ≡ true → Goes top offset.Nothing state q) (leb 8 (rows .invalids)) (λ _ e. absurd (false≢true e)) (λ _. stays top state)
 

@@ -11,11 +11,13 @@ use Rattle.counts.specs.Counts.{more, runOn}
 use Rattle.word.specs.Word.{kindOf, ssOf, valueOf, ofKind, good, inverted}
 use Rattle.shape.specs.Shape.{upOf, downOf, offsetAfter}
 use Rattle.pointer_rules.specs.Rules.{noRun, runAfter, elsewhere, adjustment, inNormal, inAlarmOrLost, byState, takenAs}
-use Rattle.pointer_rules.specs.declared.State.{State}
-use Rattle.pointer_rules.specs.declared.State.the-variants.{Normal, Alarm, Lost}
+use Rattle.pointer_state.specs.declared.State.{State}
+use Rattle.pointer_state.specs.declared.State.the-variants.{Normal, Alarm, Lost}
 use Rattle.pointer_rules.specs.declared.Taken.{Taken}
-use Rattle.pointer_rules.specs.declared.Taken.the-variants.{NewData, Resync, Plain, Increment, Decrement, Nothing, Invalid}
-use Rattle.pointer.specs.Machine.{noRows, freshPointer, rowsAfter, alarmWord, renewed, newData, invalid, stateAfter, isNormal, waitAfter, takenIn, pointerAfter, pointerStep, afterWords, takens}
+use Rattle.shape.specs.declared.Adjustment.the-variants.{Increment, Decrement}
+use Rattle.pointer_rules.specs.declared.Taken.the-variants.{NewData, Resync, Adjusted, Plain, Invalid}
+use Rattle.pointer_state.specs.State.{isNormal}
+use Rattle.pointer.specs.Machine.{noRows, freshPointer, rowsAfter, alarmWord, renewed, newData, invalid, stateAfter, waitAfter, takenIn, pointerAfter, pointerStep, afterWords, takens}
 use Rattle.pointer.specs.declared.Pointer.{Pointer}
 
 -- ---- the table
@@ -34,11 +36,11 @@ row o w t l = record { offset = o; word = w; taken = t; leads = l }
 pub rows : List Row
 rows =
     row 0 0x6800 Plain 0
-    ∷ row 0 0x6aaa (Increment 1) 1
-    ∷ row 0 0x6955 (Decrement 782) 782
-    ∷ row 782 0x69a4 (Increment 0) 0
-    ∷ row 1 0x6954 (Decrement 0) 0
-    ∷ row 782 0x6800 (Increment 0) 0
+    ∷ row 0 0x6aaa (Adjusted Increment 1) 1
+    ∷ row 0 0x6955 (Adjusted Decrement 782) 782
+    ∷ row 782 0x69a4 (Adjusted Increment 0) 0
+    ∷ row 1 0x6954 (Adjusted Decrement 0) 0
+    ∷ row 782 0x6800 (Adjusted Increment 0) 0
     ∷ row 0 0x6b0f Invalid 0
     ∷ row 0 0x6c00 Invalid 0
     ∷ row 0 0x7800 Plain 0
@@ -75,12 +77,12 @@ p6-run = refl
 -- ---- words in a row
 
 -- "Run only: P2 with two units since the last adjustment is invalid"; with three it is an increment
-pub too-soon : takens (before (Normal 782)) 782 (0x69a4 ∷ 0x6800 ∷ 0x6800 ∷ 0x6aaa ∷ 0x6aaa ∷ []) ≡ Increment 0 ∷ Plain ∷ Plain ∷ Invalid ∷ Increment 1 ∷ []
+pub too-soon : takens (before (Normal 782)) 782 (0x69a4 ∷ 0x6800 ∷ 0x6800 ∷ 0x6aaa ∷ 0x6aaa ∷ []) ≡ Adjusted Increment 0 ∷ Plain ∷ Plain ∷ Invalid ∷ Adjusted Increment 1 ∷ []
 unfolding takens before found
 too-soon = refl
 
 -- rule 3, from the fresh state; it does not start the wait, so that an adjustment may follow at once
-pub three-alike : takens freshPointer 782 (0x6800 ∷ 0x6800 ∷ 0x6800 ∷ 0x6aaa ∷ []) ≡ Nothing ∷ Nothing ∷ Resync 0 ∷ Increment 1 ∷ []
+pub three-alike : takens freshPointer 782 (0x6800 ∷ 0x6800 ∷ 0x6800 ∷ 0x6aaa ∷ []) ≡ Plain ∷ Plain ∷ Resync 0 ∷ Adjusted Increment 1 ∷ []
 unfolding freshPointer takens before found
 three-alike = refl
 
@@ -90,7 +92,7 @@ unfolding takens before found
 invalid-alike = refl
 
 -- where the first of the run has brought the offset there, as in P6, the third is plain
-pub third-plain : takens (before (Normal 782)) 782 (0x6800 ∷ 0x6800 ∷ 0x6800 ∷ []) ≡ Increment 0 ∷ Plain ∷ Plain ∷ []
+pub third-plain : takens (before (Normal 782)) 782 (0x6800 ∷ 0x6800 ∷ 0x6800 ∷ []) ≡ Adjusted Increment 0 ∷ Plain ∷ Plain ∷ []
 unfolding takens before found
 third-plain = refl
 

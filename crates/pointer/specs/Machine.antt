@@ -6,10 +6,11 @@ use mathlib.Core.List.{List, [], _∷_}
 use lib.Dec.{leb}
 use Rattle.counts.specs.Counts.{more}
 use Rattle.pointer_rules.specs.Rules.{noRun, runAfter, takenAs}
-use Rattle.pointer_rules.specs.declared.State.{State}
-use Rattle.pointer_rules.specs.declared.State.the-variants.{Normal, Alarm, Lost}
+use Rattle.pointer_state.specs.State.{isNormal, placed}
+use Rattle.pointer_state.specs.declared.State.{State}
+use Rattle.pointer_state.specs.declared.State.the-variants.{Normal, Alarm, Lost}
 use Rattle.pointer_rules.specs.declared.Taken.{Taken}
-use Rattle.pointer_rules.specs.declared.Taken.the-variants.{AlarmWord, NewData, Resync, Plain, Increment, Decrement, Nothing, Invalid}
+use Rattle.pointer_rules.specs.declared.Taken.the-variants.{AlarmWord, NewData, Resync, Adjusted, Plain, Invalid}
 use Rattle.pointer_rules.specs.declared.Run.{Run}
 use Rattle.pointer.specs.declared.Rows.{Rows}
 use Rattle.pointer.specs.declared.Pointer.{Pointer}
@@ -29,10 +30,8 @@ unfoldable pub rowsAfter : Rows → Taken → Rows
 rowsAfter rows AlarmWord = record { alarms = more (rows .alarms) 3; news = 0; invalids = 0 }
 rowsAfter rows (NewData v) = record { alarms = 0; news = more (rows .news) 8; invalids = 0 }
 rowsAfter rows (Resync v) = noRows
+rowsAfter rows (Adjusted a v) = noRows
 rowsAfter rows Plain = noRows
-rowsAfter rows (Increment v) = noRows
-rowsAfter rows (Decrement v) = noRows
-rowsAfter rows Nothing = noRows
 rowsAfter rows Invalid = record { alarms = 0; news = 0; invalids = more (rows .invalids) 8 }
 
 -- rule 1: "Three in a row lead to alarm from any state". Here and in the next, `row` is the row with this word in it.
@@ -57,42 +56,17 @@ unfoldable pub stateAfter : State → Rows → Taken → State
 stateAfter state rows AlarmWord = alarmWord state (rows .alarms)
 stateAfter state rows (NewData v) = newData state (rows .news) v
 stateAfter state rows (Resync v) = Normal v
+stateAfter state rows (Adjusted a v) = Normal v
 stateAfter state rows Plain = state
-stateAfter state rows (Increment v) = Normal v
-stateAfter state rows (Decrement v) = Normal v
-stateAfter state rows Nothing = state
 stateAfter state rows Invalid = invalid state (rows .invalids)
-
--- "The state is normal with its offset, alarm or lost"
-unfoldable pub isNormal : State → Bool
-isNormal (Normal at) = true
-isNormal Alarm = false
-isNormal Lost = false
-
-unfoldable pub isAlarm : State → Bool
-isAlarm (Normal at) = false
-isAlarm Alarm = true
-isAlarm Lost = false
-
-unfoldable pub isLost : State → Bool
-isLost (Normal at) = false
-isLost Alarm = false
-isLost Lost = true
-
-unfoldable pub offsetOf : State → ℕ
-offsetOf (Normal at) = at
-offsetOf Alarm = 0
-offsetOf Lost = 0
 
 -- the units since "the last adjustment or new data that ended normal (the wait)"; `state` is the one that the word leads to
 unfoldable pub waitAfter : ℕ → State → Taken → ℕ
 waitAfter wait state AlarmWord = more wait 3
 waitAfter wait state (NewData v) = cond (isNormal state) 0 (more wait 3)
 waitAfter wait state (Resync v) = more wait 3
+waitAfter wait state (Adjusted a v) = 0
 waitAfter wait state Plain = more wait 3
-waitAfter wait state (Increment v) = 0
-waitAfter wait state (Decrement v) = 0
-waitAfter wait state Nothing = more wait 3
 waitAfter wait state Invalid = more wait 3
 
 -- ---- one word
@@ -131,12 +105,6 @@ takens s top [] = []
 takens s top (w ∷ ws) = pointerStep s top w .taken ∷ takens (afterWord s top w) top ws
 
 -- ---- ranges: "Counts stop at the end of their range: alarm words, alike words, .. wait 3; invalid and enabled words 8"
-
--- "Its offset is a pointer value"
-unfoldable pub placed : ℕ → State → Bool
-placed top (Normal at) = leb at top
-placed top Alarm = true
-placed top Lost = true
 
 abbrev pub rowsIn : Rows → Bool
 rowsIn rows = leb (rows .alarms) 3 && leb (rows .news) 8 && leb (rows .invalids) 8

@@ -3,9 +3,10 @@
 // `top` is the largest pointer value, 782 in AU-4.
 ghost use mathlib.Core.Path.{_≡_};
 ghost use mathlib.Core.Bool.{cond};
-ghost use Rattle.pointer.specs.Machine.{noRows, freshPointer, rowsAfter, alarmWord, renewed, newData, invalid, stateAfter, isNormal, isAlarm, offsetOf, waitAfter, pointerStep, placed, pointerInRange};
+ghost use Rattle.pointer_state.specs.State.{isNormal};
+ghost use Rattle.pointer.specs.Machine.{noRows, freshPointer, rowsAfter, alarmWord, renewed, newData, invalid, stateAfter, waitAfter, pointerStep, pointerInRange};
 use pointer_rules::Run;
-use pointer_rules::State;
+use pointer_state::State;
 use pointer_rules::Taken;
 
 // How many of the last words, in a row, were taken as alarm words (as far as 3), as new data and as invalid (as far as 8).
@@ -70,10 +71,8 @@ fn rows_after(rows: Rows, t: Taken) -> Rows
             invalids: 0,
         },
         Taken::Resync(_) => no_rows(),
+        Taken::Adjusted(_, _) => no_rows(),
         Taken::Plain => no_rows(),
-        Taken::Increment(_) => no_rows(),
-        Taken::Decrement(_) => no_rows(),
-        Taken::Nothing => no_rows(),
         Taken::Invalid => Rows {
             alarms: 0,
             news: 0,
@@ -126,44 +125,9 @@ fn state_after(state: State, rows: Rows, t: Taken) -> State
         Taken::AlarmWord => take_alarm_word(state, rows.alarms),
         Taken::NewData(v) => take_new_data(state, rows.news, v),
         Taken::Resync(v) => State::Normal(v),
+        Taken::Adjusted(_, v) => State::Normal(v),
         Taken::Plain => state,
-        Taken::Increment(v) => State::Normal(v),
-        Taken::Decrement(v) => State::Normal(v),
-        Taken::Nothing => state,
         Taken::Invalid => take_invalid(state, rows.invalids),
-    }
-}
-
-// Whether the state is normal.
-pub fn normal(state: State) -> bool
-    ensures { λ r. ⌜ r ≡ isNormal state ⌝ }
-{
-    match state {
-        State::Normal(_) => true,
-        State::Alarm => false,
-        State::Lost => false,
-    }
-}
-
-// Whether the state is alarm.
-pub fn alarm(state: State) -> bool
-    ensures { λ r. ⌜ r ≡ isAlarm state ⌝ }
-{
-    match state {
-        State::Normal(_) => false,
-        State::Alarm => true,
-        State::Lost => false,
-    }
-}
-
-// The offset of a normal state; 0 of any other.
-pub fn offset(state: State) -> u16
-    ensures { λ r. ⌜ r ≡ offsetOf state ⌝ }
-{
-    match state {
-        State::Normal(v) => v,
-        State::Alarm => 0,
-        State::Lost => 0,
     }
 }
 
@@ -171,7 +135,7 @@ pub fn offset(state: State) -> u16
 fn wait_after_new_data(state: State, more: u8) -> u8
     ensures { λ r. ⌜ r ≡ cond (isNormal state) 0 more ⌝ }
 {
-    if normal(state) { 0 } else { more }
+    if pointer_state::normal(state) { 0 } else { more }
 }
 
 // The wait after a word taken as t that led to the state given.
@@ -183,10 +147,8 @@ fn wait_after(wait: u8, state: State, t: Taken) -> u8
         Taken::AlarmWord => more,
         Taken::NewData(_) => wait_after_new_data(state, more),
         Taken::Resync(_) => more,
+        Taken::Adjusted(_, _) => 0,
         Taken::Plain => more,
-        Taken::Increment(_) => 0,
-        Taken::Decrement(_) => 0,
-        Taken::Nothing => more,
         Taken::Invalid => more,
     }
 }
@@ -213,23 +175,12 @@ pub fn step(s: Pointer, top: u16, w: u16) -> AfterWord
     AfterWord { taken, pointer }
 }
 
-// Whether a normal state's offset is a pointer value.
-fn is_placed(top: u16, state: State) -> bool
-    ensures { λ r. ⌜ r ≡ placed top state ⌝ }
-{
-    match state {
-        State::Normal(v) => v <= top,
-        State::Alarm => true,
-        State::Lost => true,
-    }
-}
-
 // Whether every number of the pointer is in its range.
 pub fn in_range(top: u16, s: Pointer) -> bool
     ensures { λ r. ⌜ r ≡ pointerInRange top s ⌝ }
 {
     let state = s.state;
-    is_placed(top, state)
+    pointer_state::is_placed(top, state)
         & ((s.rows.alarms <= 3) & (s.rows.news <= 8) & (s.rows.invalids <= 8))
         & ((s.run.count <= 3) & (s.run.value <= top))
         & (s.wait <= 3)

@@ -13,10 +13,10 @@ use Rattle.shape.specs.Shape.{offsetAfter}
 use Rattle.shape.specs.declared.Adjustment.{Adjustment}
 use Rattle.shape.specs.declared.Adjustment.the-variants as offset
 use Rattle.pointer_rules.specs.Rules.{runAfter, elsewhere, adjustment, inNormal, inAlarmOrLost, byState, takenAs}
-use Rattle.pointer_rules.specs.declared.State.{State}
-use Rattle.pointer_rules.specs.declared.State.the-variants.{Normal, Alarm, Lost}
+use Rattle.pointer_state.specs.declared.State.{State}
+use Rattle.pointer_state.specs.declared.State.the-variants.{Normal, Alarm, Lost}
 use Rattle.pointer_rules.specs.declared.Taken.{Taken}
-use Rattle.pointer_rules.specs.declared.Taken.the-variants.{AlarmWord, NewData, Resync, Plain, Increment, Decrement, Nothing, Invalid}
+use Rattle.pointer_rules.specs.declared.Taken.the-variants.{AlarmWord, NewData, Resync, Adjusted, Plain, Invalid}
 use Rattle.pointer_rules.specs.declared.Run.{Run}
 
 -- the state is normal, and an adjustment of its offset leads to v
@@ -30,10 +30,8 @@ unfoldable pub Names : ℕ → State → Taken → Type 0
 Names top state AlarmWord = Unit {0}
 Names top state (NewData v) = v ≤ top
 Names top state (Resync v) = v ≤ top
+Names top state (Adjusted a v) = Moved top a state v
 Names top state Plain = Unit {0}
-Names top state (Increment v) = Moved top offset.Increment state v
-Names top state (Decrement v) = Moved top offset.Decrement state v
-Names top state Nothing = Unit {0}
 Names top state Invalid = Unit {0}
 
 -- ---- good, runAfter

@@ -10,10 +10,10 @@ use Rattle.word.specs.Word.{normal, enabled, valueOf, ofKind, good, bitsI, bits
 use Rattle.shape.specs.Shape.{offsetAfter}
 use Rattle.shape.specs.declared.Adjustment.the-variants as offset
 use Rattle.pointer_rules.specs.Rules.{noRun, runAfter, elsewhere, adjustment, inNormal, inAlarmOrLost, byState, takenAs}
-use Rattle.pointer_rules.specs.declared.State.{State}
-use Rattle.pointer_rules.specs.declared.State.the-variants.{Normal, Alarm, Lost}
+use Rattle.pointer_state.specs.declared.State.{State}
+use Rattle.pointer_state.specs.declared.State.the-variants.{Normal, Alarm, Lost}
 use Rattle.pointer_rules.specs.declared.Taken.{Taken}
-use Rattle.pointer_rules.specs.declared.Taken.the-variants.{AlarmWord, NewData, Resync, Plain, Increment, Decrement, Nothing, Invalid}
+use Rattle.pointer_rules.specs.declared.Taken.the-variants.{AlarmWord, NewData, Resync, Adjusted, Plain, Invalid}
 use Rattle.pointer_rules.specs.declared.Run.{Run}
 
 -- ---- the run
@@ -30,12 +30,12 @@ module _ (run : Run) (top w : ℕ) (in-run : Bool) (in-run-is : in-run ≡ good 
 -- ---- rules 4 to 6
 
 module _ (top at i d : ℕ) where
-  pub adjusts-up : (v : ℕ) → (leb 3 i && leb d 2) ≡ true → v ≡ offsetAfter top offset.Increment at → Increment v ≡ adjustment top at i d
+  pub adjusts-up : (v : ℕ) → (leb 3 i && leb d 2) ≡ true → v ≡ offsetAfter top offset.Increment at → Adjusted offset.Increment v ≡ adjustment top at i d
   unfolding adjustment
   adjusts-up v up v-is = rw (up, v-is) refl
 
   module _ (up : (leb 3 i && leb d 2) ≡ false) where
-    pub adjusts-down : (v : ℕ) → (leb 3 d && leb i 2) ≡ true → v ≡ offsetAfter top offset.Decrement at → Decrement v ≡ adjustment top at i d
+    pub adjusts-down : (v : ℕ) → (leb 3 d && leb i 2) ≡ true → v ≡ offsetAfter top offset.Decrement at → Adjusted offset.Decrement v ≡ adjustment top at i d
     unfolding adjustment
     adjusts-down v down v-is = rw (up, down, v-is) refl
 
@@ -63,9 +63,9 @@ module _ (at wait top w : ℕ) (in-kind : Bool) (in-kind-is : in-kind ≡ ofKind
       normal-adjusts i d r late i-is d-is r-is = rw (← in-kind-is, h, ← v-is, ne-eqb v at other, le-ltb wait 3 late, ← i-is, ← d-is) r-is
 
 module _ (top w : ℕ) (in-range : Bool) (in-range-is : in-range ≡ good normal top w) where
-  pub outside-nothing : in-range ≡ true → Nothing ≡ inAlarmOrLost top w
+  pub outside-plain : in-range ≡ true → Plain ≡ inAlarmOrLost top w
   unfolding inAlarmOrLost
-  outside-nothing h = rw (← in-range-is, h) refl
+  outside-plain h = rw (← in-range-is, h) refl
 
   pub outside-invalid : in-range ≡ false → Invalid ≡ inAlarmOrLost top w
   unfolding inAlarmOrLost

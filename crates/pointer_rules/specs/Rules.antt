@@ -8,10 +8,10 @@ use Rattle.word.specs.Word.{normal, enabled, valueOf, ofKind, good, bitsI, bits
 use Rattle.shape.specs.Shape.{offsetAfter}
 use Rattle.shape.specs.declared.Adjustment.{Adjustment}
 use Rattle.shape.specs.declared.Adjustment.the-variants as offset
-use Rattle.pointer_rules.specs.declared.State.{State}
-use Rattle.pointer_rules.specs.declared.State.the-variants.{Normal, Alarm, Lost}
+use Rattle.pointer_state.specs.declared.State.{State}
+use Rattle.pointer_state.specs.declared.State.the-variants.{Normal, Alarm, Lost}
 use Rattle.pointer_rules.specs.declared.Taken.{Taken}
-use Rattle.pointer_rules.specs.declared.Taken.the-variants.{AlarmWord, NewData, Resync, Plain, Increment, Decrement, Nothing, Invalid}
+use Rattle.pointer_rules.specs.declared.Taken.the-variants.{AlarmWord, NewData, Resync, Adjusted, Plain, Invalid}
 use Rattle.pointer_rules.specs.declared.Run.{Run}
 
 -- ---- the run
@@ -37,8 +37,8 @@ elsewhere Lost v = true
 -- of rule 4, with i I bits and d D bits inverted: "three or more I bits inverted and at most two D bits is an increment; the mirror case a decrement"
 unfoldable pub adjustment : ℕ → ℕ → ℕ → ℕ → Taken
 adjustment top at i d =
-    cond (leb 3 i && leb d 2) (Increment (offsetAfter top offset.Increment at))
-    (cond (leb 3 d && leb i 2) (Decrement (offsetAfter top offset.Decrement at)) Invalid)
+    cond (leb 3 i && leb d 2) (Adjusted offset.Increment (offsetAfter top offset.Increment at))
+    (cond (leb 3 d && leb i 2) (Adjusted offset.Decrement (offsetAfter top offset.Decrement at)) Invalid)
 
 -- rule 4: "Normal state, normal NDF, SS 10: value equal to the offset is plain; else, if at least three units lie between .. (the wait)";
 -- rule 6: "All else is invalid"
@@ -50,9 +50,9 @@ inNormal at wait top w =
     (adjustment top at (inverted bitsI w at) (inverted bitsD w at))))
     Invalid
 
--- rule 5: "In alarm or lost, a word with normal NDF, SS 10, in range changes nothing and is not invalid"; rule 6: "All else is invalid"
+-- rule 5: "In alarm or lost, a word with normal NDF, SS 10, in range changes nothing and is not invalid", and so is plain; rule 6: "All else is invalid"
 unfoldable pub inAlarmOrLost : ℕ → ℕ → Taken
-inAlarmOrLost top w = cond (good normal top w) Nothing Invalid
+inAlarmOrLost top w = cond (good normal top w) Plain Invalid
 
 -- rules 4 to 6, by the state
 unfoldable pub byState : State → ℕ → ℕ → ℕ → Taken
@@ -76,10 +76,8 @@ unfoldable pub restarts : Taken → Bool
 restarts AlarmWord = false
 restarts (NewData v) = true
 restarts (Resync v) = true
+restarts (Adjusted a v) = false
 restarts Plain = false
-restarts (Increment v) = false
-restarts (Decrement v) = false
-restarts Nothing = false
 restarts Invalid = false
 
 -- "In an increment unit ..", "In a decrement unit ..": the adjustment that the unit makes
@@ -87,8 +85,6 @@ unfoldable pub adjustmentOf : Taken → Adjustment
 adjustmentOf AlarmWord = offset.Nothing
 adjustmentOf (NewData v) = offset.Nothing
 adjustmentOf (Resync v) = offset.Nothing
+adjustmentOf (Adjusted a v) = a
 adjustmentOf Plain = offset.Nothing
-adjustmentOf (Increment v) = offset.Increment
-adjustmentOf (Decrement v) = offset.Decrement
-adjustmentOf Nothing = offset.Nothing
 adjustmentOf Invalid = offset.Nothing

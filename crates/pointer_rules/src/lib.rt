@@ -3,24 +3,16 @@
 // `top` is the largest pointer value, 782 in AU-4.
 ghost use mathlib.Core.Path.{_≡_};
 ghost use Rattle.pointer_rules.specs.Rules.{runAfter, elsewhere, adjustment, inNormal, inAlarmOrLost, byState, takenAs, restarts, adjustmentOf};
+use pointer_state::State;
 use shape::Adjustment;
 
-// Normal with its offset, alarm or lost.
-pub enum State {
-    Normal(u16),
-    Alarm,
-    Lost,
-}
-
-// How a word is taken, with the offset that it names or leads to. A resync is rule 3, nothing is rule 5.
+// How a word is taken, with the offset that it names or leads to. A resync is rule 3; a plain word changes nothing, in normal by rule 4 and in alarm or lost by rule 5.
 pub enum Taken {
     AlarmWord,
     NewData(u16),
     Resync(u16),
+    Adjusted(Adjustment, u16),
     Plain,
-    Increment(u16),
-    Decrement(u16),
-    Nothing,
     Invalid,
 }
 
@@ -61,10 +53,12 @@ fn adjust(top: u16, offset: u16, i: u32, d: u32) -> Taken
     ensures { λ r. ⌜ r ≡ adjustment top offset i d ⌝ }
 {
     if (3 <= i) & (d <= 2) {
-        return Taken::Increment(shape::offset_after(top, Adjustment::Increment, offset));
+        let up = shape::offset_after(top, Adjustment::Increment, offset);
+        return Taken::Adjusted(Adjustment::Increment, up);
     }
     if (3 <= d) & (i <= 2) {
-        return Taken::Decrement(shape::offset_after(top, Adjustment::Decrement, offset));
+        let down = shape::offset_after(top, Adjustment::Decrement, offset);
+        return Taken::Adjusted(Adjustment::Decrement, down);
     }
     Taken::Invalid
 }
@@ -92,7 +86,7 @@ fn take_outside(top: u16, w: u16) -> Taken
     ensures { λ r. ⌜ r ≡ inAlarmOrLost top w ⌝ }
 {
     if word::is_good(word::NORMAL, top, w) {
-        return Taken::Nothing;
+        return Taken::Plain;
     }
     Taken::Invalid
 }
@@ -133,10 +127,8 @@ pub fn is_restart(t: Taken) -> bool
         Taken::AlarmWord => false,
         Taken::NewData(_) => true,
         Taken::Resync(_) => true,
+        Taken::Adjusted(_, _) => false,
         Taken::Plain => false,
-        Taken::Increment(_) => false,
-        Taken::Decrement(_) => false,
-        Taken::Nothing => false,
         Taken::Invalid => false,
     }
 }
@@ -149,10 +141,8 @@ pub fn adjustment_of(t: Taken) -> Adjustment
         Taken::AlarmWord => Adjustment::Nothing,
         Taken::NewData(_) => Adjustment::Nothing,
         Taken::Resync(_) => Adjustment::Nothing,
+        Taken::Adjusted(a, _) => a,
         Taken::Plain => Adjustment::Nothing,
-        Taken::Increment(_) => Adjustment::Increment,
-        Taken::Decrement(_) => Adjustment::Decrement,
-        Taken::Nothing => Adjustment::Nothing,
         Taken::Invalid => Adjustment::Nothing,
     }
 }

@@ -5,8 +5,8 @@ use mathlib.Core.List.{List}
 use Prim.Native.Nat.{ℕ}
 use Rattle.refusals.specs.Refusals.{answerNumber}
 use Rattle.shape.specs.Shape.{au4}
-use Rattle.pointer_rules.specs.declared.State as reading
-use Rattle.pointer.specs.Machine.{offsetOf}
+use Rattle.pointer_state.specs.declared.State as reading
+use Rattle.pointer_state.specs.State.{offsetOf}
 use Rattle.settings.specs.declared.Settings.{Settings}
 use Rattle.sink.specs.Sink.{freshSink, sink, Receives}
 use Rattle.sink.specs.declared.State.{State}

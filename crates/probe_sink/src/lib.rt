@@ -39,25 +39,25 @@ pub struct Shown {
     pub settled: bool,
 }
 
-fn pointer_state(kind: u8, offset: u16) -> pointer_rules::State
+fn pointer_state(kind: u8, offset: u16) -> pointer_state::State
     ensures { λ r. ⌜ r ≡ pointerState kind offset ⌝ }
 {
     if kind == 0 {
-        return pointer_rules::State::Lost;
+        return pointer_state::State::Lost;
     }
     if kind == 1 {
-        return pointer_rules::State::Alarm;
+        return pointer_state::State::Alarm;
     }
-    pointer_rules::State::Normal(offset)
+    pointer_state::State::Normal(offset)
 }
 
-fn kind(state: pointer_rules::State) -> u8
+fn kind(state: pointer_state::State) -> u8
     ensures { λ r. ⌜ r ≡ stateKind state ⌝ }
 {
     match state {
-        pointer_rules::State::Normal(_) => 2,
-        pointer_rules::State::Alarm => 1,
-        pointer_rules::State::Lost => 0,
+        pointer_state::State::Normal(_) => 2,
+        pointer_state::State::Alarm => 1,
+        pointer_state::State::Lost => 0,
     }
 }
 
@@ -91,7 +91,7 @@ fn plain_of(s: sink::State) -> Plain
     let monitor = s.monitor;
     Plain {
         kind: kind(state),
-        offset: pointer::offset(state),
+        offset: pointer_state::offset(state),
         rows,
         run,
         wait: p.wait,

@@ -16,7 +16,7 @@ use Rattle.shape.specs.declared.Adjustment.{Adjustment}
 use Rattle.shape.specs.declared.Adjustment.the-variants.{Nothing, Increment, Decrement}
 use Rattle.unit_source.specs.Source as unit-source
 use Rattle.unit_source.specs.Source.{adjusts, sourceWaitAfter, wordSent}
-use Rattle.pointer_rules.specs.declared.State.the-variants.{Normal}
+use Rattle.pointer_state.specs.declared.State.the-variants.{Normal}
 use Rattle.pointer.specs.Machine.{pointerStep}
 use Rattle.settles_pointer.specs.Meant.{meant}
 use Rattle.settles_pointer.proofs.Locks.{Locked, Nearing, nearing-any, nearing-plain, nearing-locked, third, follows}

@@ -20,7 +20,7 @@ use Rattle.container_source.specs.declared.State as container-source-state
 use Rattle.container_source_theorems.specs.Run as sending
 use Rattle.unit_source.specs.Source as unit-source
 use Rattle.unit_source.specs.declared.State as unit-source-state
-use Rattle.pointer.specs.Machine.{isNormal, offsetOf}
+use Rattle.pointer_state.specs.State.{isNormal, offsetOf}
 use Rattle.pointer.specs.declared.AfterWord.{AfterWord}
 use Rattle.cut.specs.declared.Cut.{Cut}
 use Rattle.cut.proofs.Outcome.{done-length, held-length}

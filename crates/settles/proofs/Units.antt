@@ -18,8 +18,9 @@ use Rattle.unit_source_theorems.proofs.Spaced as spaced
 use Rattle.unit_source_theorems.proofs.Words.{word-carried}
 use Rattle.pointer_rules.specs.Rules.{restarts}
 use Rattle.pointer_rules.specs.declared.Taken.the-variants.{Resync}
-use Rattle.pointer_rules.specs.declared.State.the-variants.{Normal}
-use Rattle.pointer.specs.Machine.{isNormal, offsetOf, pointerStep}
+use Rattle.pointer_state.specs.declared.State.the-variants.{Normal}
+use Rattle.pointer_state.specs.State.{isNormal, offsetOf}
+use Rattle.pointer.specs.Machine.{pointerStep}
 use Rattle.pointer.specs.declared.AfterWord.{AfterWord}
 use Rattle.cut.specs.Cut.{cutOf, completedOf, insidePart, endedOf, heldOf}
 use Rattle.cut.specs.declared.Cut.{Cut}

@@ -19,10 +19,10 @@ use Rattle.shape.specs.declared.Adjustment.{Adjustment}
 use Rattle.shape.specs.declared.Adjustment.the-variants as asked
 use Rattle.unit_source.specs.Source.{adjusts, wordSent, sourceWaitAfter}
 use Rattle.pointer_rules.specs.Rules.{runAfter, elsewhere, adjustment, inNormal, byState, takenAs, restarts, adjustmentOf}
-use Rattle.pointer_rules.specs.declared.State.{State}
-use Rattle.pointer_rules.specs.declared.State.the-variants.{Normal, Alarm, Lost}
+use Rattle.pointer_state.specs.declared.State.{State}
+use Rattle.pointer_state.specs.declared.State.the-variants.{Normal, Alarm, Lost}
 use Rattle.pointer_rules.specs.declared.Taken.{Taken}
-use Rattle.pointer_rules.specs.declared.Taken.the-variants.{Resync, Plain, Increment, Decrement, Invalid}
+use Rattle.pointer_rules.specs.declared.Taken.the-variants.{Resync, Adjusted, Plain, Invalid}
 use Rattle.pointer_rules.specs.declared.Run.{Run}
 use Rattle.pointer.specs.Machine as machine
 use Rattle.pointer.specs.Machine.{noRows, rowsAfter, stateAfter, takenIn, pointerAfter, pointerStep, afterWord}
@@ -182,11 +182,11 @@ module _ (top : ℕ) (small : top < 1024) where
           )
 
     -- five I bits inverted and no D bit, and the mirror case
-    adjustment-I : adjustment top v (ones (bitAnd bitsI bitsI)) (ones (bitAnd bitsI bitsD)) ≡ Increment (offsetAfter top asked.Increment v)
+    adjustment-I : adjustment top v (ones (bitAnd bitsI bitsI)) (ones (bitAnd bitsI bitsD)) ≡ Adjusted asked.Increment (offsetAfter top asked.Increment v)
     unfolding adjustment
     adjustment-I = rw (ones-I, ones-ID)
 
-    adjustment-D : adjustment top v (ones (bitAnd bitsD bitsI)) (ones (bitAnd bitsD bitsD)) ≡ Decrement (offsetAfter top asked.Decrement v)
+    adjustment-D : adjustment top v (ones (bitAnd bitsD bitsI)) (ones (bitAnd bitsD bitsD)) ≡ Adjusted asked.Decrement (offsetAfter top asked.Decrement v)
     unfolding adjustment
     adjustment-D = rw (ones-DI, ones-D)
 

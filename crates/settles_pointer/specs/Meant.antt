@@ -10,5 +10,5 @@ use Rattle.pointer_rules.specs.declared.Taken.the-variants as taken
 -- for "a new offset holds in the same unit"
 unfoldable pub meant : ℕ → Adjustment → ℕ → Taken
 meant top Nothing offset = taken.Plain
-meant top Increment offset = taken.Increment (offsetAfter top Increment offset)
-meant top Decrement offset = taken.Decrement (offsetAfter top Decrement offset)
+meant top Increment offset = taken.Adjusted Increment (offsetAfter top Increment offset)
+meant top Decrement offset = taken.Adjusted Decrement (offsetAfter top Decrement offset)

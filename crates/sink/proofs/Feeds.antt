@@ -14,8 +14,9 @@ use Rattle.refusals.proofs.Wrong.{outcome-done, outcome-refused, outcome-said}
 use Rattle.shape.specs.Shape.{Fit}
 use Rattle.shape.specs.declared.Shape.{Shape}
 use Rattle.pointer_rules.specs.Rules.{restarts, adjustmentOf}
-use Rattle.pointer_rules.specs.declared.State as reading
-use Rattle.pointer_rules.specs.declared.State.the-variants.{Normal, Alarm, Lost}
+use Rattle.pointer_state.specs.declared.State as reading
+use Rattle.pointer_state.specs.declared.State.the-variants.{Normal, Alarm, Lost}
+use Rattle.pointer_state.specs.State.{isAlarm, isLost, isNormal, offsetOf}
 use Rattle.pointer.specs.Machine as pointer
 use Rattle.pointer.specs.declared.Pointer.{Pointer}
 use Rattle.pointer.specs.declared.AfterWord.{AfterWord}
@@ -53,19 +54,19 @@ module _ (s : Shape) (state : State) (a : AfterWord) (unit held done : List ℕ)
   in-range : Ranged s state
   in-range = ranged s state (p .fed .fine)
 
-  pub offset-is-low : pointer.offsetOf (a .pointer .state) ≤ s .top
+  pub offset-is-low : offsetOf (a .pointer .state) ≤ s .top
   unfolding pointed
   offset-is-low = rw (p .after-is) (offset-low (s .top) _ (step-in-range (s .top) (state .pointer) (wordIn s unit) (in-range .pointer-in)))
 
   -- where it goes on, by whether it restarts
   line-by : (b : Bool) → restarts (a .taken) ≡ b
-      → Line s (cond b 0 (state .held)) (fromIn s b (adjustmentOf (a .taken)) (pointer.offsetOf (a .pointer .state)))
+      → Line s (cond b 0 (state .held)) (fromIn s b (adjustmentOf (a .taken)) (offsetOf (a .pointer .state)))
   unfolding fromIn
-  line-by true h = line-restarts s (pointer.offsetOf (a .pointer .state)) (p .fit) offset-is-low
+  line-by true h = line-restarts s (offsetOf (a .pointer .state)) (p .fit) offset-is-low
   line-by false h =
-      rw (in-range .held-is) (line-goes s (adjustmentOf (a .taken)) (pointer.offsetOf (state .pointer .state)) (p .fit) (offset-low (s .top) (state .pointer) (in-range .pointer-in)))
+      rw (in-range .held-is) (line-goes s (adjustmentOf (a .taken)) (offsetOf (state .pointer .state)) (p .fit) (offset-low (s .top) (state .pointer) (in-range .pointer-in)))
 
-  pub receivable : (offset : ℕ) (n : Bool) → offset ≡ pointer.offsetOf (a .pointer .state) → n ≡ pointer.isNormal (a .pointer .state) → n ≡ true
+  pub receivable : (offset : ℕ) (n : Bool) → offset ≡ offsetOf (a .pointer .state) → n ≡ isNormal (a .pointer .state) → n ≡ true
       → Receivable s (a .taken) offset (state .held) unit held done
   unfolding beginIn
   receivable offset n o n-is h =
@@ -77,34 +78,34 @@ module _ (s : Shape) (state : State) (a : AfterWord) (unit held done : List ℕ)
 
   -- what it leaves
   pub leaves-normal : (e : Settings) (n : Bool) (offset : ℕ) (r : AfterUnit) (held′ done′ : List ℕ)
-      → n ≡ pointer.isNormal (a .pointer .state) → n ≡ true → offset ≡ pointer.offsetOf (a .pointer .state)
+      → n ≡ isNormal (a .pointer .state) → n ≡ true → offset ≡ offsetOf (a .pointer .state)
       → NormalOutcomeIs s (a .taken) offset (state .held) (state .monitor) e unit held done r held′ done′
       → UnitOutcomeIs s state a e unit held done r held′ done′
   unfolding unitOutcome
   leaves-normal e n offset r held′ done′ n-is h o l = rw (← n-is, h, ← o) l
 
-  pub leaves-silence : (e : Settings) (n : Bool) (r : AfterUnit) → n ≡ pointer.isNormal (a .pointer .state) → n ≡ false → r ≡ silence
+  pub leaves-silence : (e : Settings) (n : Bool) (r : AfterUnit) → n ≡ isNormal (a .pointer .state) → n ≡ false → r ≡ silence
       → UnitOutcomeIs s state a e unit held done r held done
   unfolding unitOutcome
   leaves-silence e n r n-is h r-is = rw (← n-is, h, r-is) refl
 
 -- ---- what is told
 
-lost-is : (x : reading.State) → (not (pointer.isNormal x) && not (pointer.isAlarm x)) ≡ pointer.isLost x
-unfolding pointer.isNormal pointer.isAlarm pointer.isLost
+lost-is : (x : reading.State) → (not (isNormal x) && not (isAlarm x)) ≡ isLost x
+unfolding isNormal isAlarm isLost
 lost-is (Normal v) = refl
 lost-is Alarm = refl
 lost-is Lost = refl
 
-ssf-is : (x : reading.State) → not (pointer.isNormal x) ≡ ssfOf (pointer.isAlarm x) (pointer.isLost x)
-unfolding pointer.isNormal pointer.isAlarm pointer.isLost
+ssf-is : (x : reading.State) → not (isNormal x) ≡ ssfOf (isAlarm x) (isLost x)
+unfolding isNormal isAlarm isLost
 ssf-is (Normal v) = refl
 ssf-is Alarm = refl
 ssf-is Lost = refl
 
 pub unit-told : (p : Pointer) (total : ℕ) (left : AfterUnit) (e : Settings)
     (normal alarm settled : Bool) (defects : Defects) (actions : Actions) (causes : Causes) (after : ℕ)
-    → normal ≡ pointer.isNormal (p .state) → alarm ≡ pointer.isAlarm (p .state) → defects ≡ defectsOf (left .monitor)
+    → normal ≡ isNormal (p .state) → alarm ≡ isAlarm (p .state) → defects ≡ defectsOf (left .monitor)
     → settled ≡ settledOf normal (left .monitor) e → after ≡ totalOf total settled
     → actions ≡ actionsOf termination (not normal) defects → causes ≡ causesOf termination alarm (not normal && not alarm) defects (e .flags)
     → record {
@@ -119,7 +120,7 @@ pub unit-told : (p : Pointer) (total : ℕ) (left : AfterUnit) (e : Settings)
     ≡ told p total left e
 unfolding told
 unit-told p total left e normal alarm settled defects actions causes after n a d s t c k =
-    let lost = ap (λ (b : Bool). not b && not (pointer.isAlarm (p .state))) n ∙ lost-is (p .state) in
+    let lost = ap (λ (b : Bool). not b && not (isAlarm (p .state))) n ∙ lost-is (p .state) in
     let ssf = ap not n ∙ ssf-is (p .state) in
     rw (k, c, t, s, d, a, lost, ssf, n) refl
 

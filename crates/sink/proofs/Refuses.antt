@@ -18,6 +18,7 @@ use Rattle.refusals.proofs.Wrong.{due-none, due-false, none-wrong, Numbered, nu
 use Rattle.refusals.proofs.Joined.{joined-refused, joined-done, joined-none}
 use Rattle.shape.specs.Shape.{unitLength, heldCount}
 use Rattle.shape.specs.declared.Shape.{Shape}
+use Rattle.pointer_state.specs.State.{offsetOf}
 use Rattle.pointer.specs.Machine as pointer
 use Rattle.pointer.proofs.Ranges.{offset-low}
 use Rattle.monitor.specs.Monitoring as monitor
@@ -62,7 +63,7 @@ module _ (s : Shape) (state : State) (a : Bool) (a-is : a ≡ pointer.pointerInR
     unfolding sinkOutOfRange
     out-monitor k = rw (← a-is, h, ← b-is, k) refl
 
-    module _ (k : not b ≡ false) (offset : ℕ) (o : offset ≡ pointer.offsetOf (state .pointer .state)) where
+    module _ (k : not b ≡ false) (offset : ℕ) (o : offset ≡ offsetOf (state .pointer .state)) where
       pub low-offset : offset ≤ s .top
       low-offset = rw o (offset-low (s .top) (state .pointer) (sym a-is ∙ not-false a h))
 

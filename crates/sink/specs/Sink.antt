@@ -15,6 +15,7 @@ use Rattle.refusals.specs.declared.Refusal.the-variants as wrong
 use Rattle.refusals.specs.declared.Answer.the-variants.{Done, Refused}
 use Rattle.shape.specs.Shape.{Fit, unitLength, heldCount}
 use Rattle.shape.specs.declared.Shape.{Shape}
+use Rattle.pointer_state.specs.State.{isAlarm, isLost, isNormal, offsetOf}
 use Rattle.pointer.specs.Machine as pointer
 use Rattle.pointer.specs.declared.Pointer.{Pointer}
 use Rattle.pointer.specs.declared.AfterWord.{AfterWord}
@@ -36,7 +37,7 @@ freshSink = record { pointer = pointer.freshPointer; held = 0; monitor = monitor
 
 -- "A normal state's held count is 2349 minus 3 times the offset, or 0 at offset 0; any other state's is 0"
 abbrev pub heldIn : Shape → Pointer → ℕ
-heldIn s p = heldCount s (pointer.offsetOf (p .state))
+heldIn s p = heldCount s (offsetOf (p .state))
 
 -- "a state number outside its range, or a held count other than the one above"
 unfoldable pub sinkOutOfRange : Shape → State → Bool
@@ -66,17 +67,17 @@ pointed s p unit = pointer.pointerStep p (s .top) (wordIn s unit)
 -- what it leaves, a being the pointer after it: "A unit that ends in alarm or lost has SSF and hands back nothing", and writes nothing
 unfoldable pub unitOutcome : Shape → State → AfterWord → Settings → List ℕ → List ℕ → List ℕ → UnitOutcome
 unitOutcome s state a e unit held done =
-    cond (pointer.isNormal (a .pointer .state))
-    (receivedNormal s (a .taken) (pointer.offsetOf (a .pointer .state)) (state .held) (state .monitor) e unit held done)
+    cond (isNormal (a .pointer .state))
+    (receivedNormal s (a .taken) (offsetOf (a .pointer .state)) (state .held) (state .monitor) e unit held done)
     (record { after = silence; held = held; done = done })
 
 -- "Actions and causes are taken at the unit's end", and so are settled and the total
 unfoldable pub told : Pointer → ℕ → AfterUnit → Settings → Received
 told p total u e =
-    let alarm = pointer.isAlarm (p .state) in
-    let lost = pointer.isLost (p .state) in
+    let alarm = isAlarm (p .state) in
+    let lost = isLost (p .state) in
     let defects = defectsOf (u .monitor) in
-    let settled = settledOf (pointer.isNormal (p .state)) (u .monitor) e in
+    let settled = settledOf (isNormal (p .state)) (u .monitor) e in
     record {
       answer = Done;
       state = record { pointer = p; held = u .held; monitor = u .monitor; total = totalOf total settled };

@@ -65,7 +65,7 @@ fn out_of_range(shape: Shape, s: State) -> bool
         return true;
     }
     let state = p.state;
-    let count = shape::held_count(shape, pointer::offset(state));
+    let count = shape::held_count(shape, pointer_state::offset(state));
     s.held != count
 }
 
@@ -117,13 +117,13 @@ fn take_unit(
 {
     let p = a.pointer;
     let state = p.state;
-    if pointer::normal(state) {
+    if pointer_state::normal(state) {
         let t = a.taken;
         let m = s.monitor;
         return receiving::receive(
             shape,
             t,
-            pointer::offset(state),
+            pointer_state::offset(state),
             s.held,
             m,
             e,
@@ -141,8 +141,8 @@ fn tell(p: Pointer, total: u16, u: AfterUnit, e: Settings) -> Received
 {
     let state = p.state;
     let flags = e.flags;
-    let normal = pointer::normal(state);
-    let alarm = pointer::alarm(state);
+    let normal = pointer_state::normal(state);
+    let alarm = pointer_state::alarm(state);
     let m = u.monitor;
     let ended = u.ended;
     let defects = unit_end::defects_of(m);

@@ -4,9 +4,9 @@ use mathlib.Core.Bool.{true, false, false≢true}
 use mathlib.Core.List.{_∷_}
 use Rattle.refusals.proofs.Wrong.{outcome-by}
 use Rattle.shape.specs.declared.Shape.{Shape}
-use Rattle.pointer_rules.specs.declared.State as reading
-use Rattle.pointer_rules.specs.declared.State.the-variants.{Normal, Alarm, Lost}
-use Rattle.pointer.specs.Machine.{isNormal, isAlarm, isLost}
+use Rattle.pointer_state.specs.declared.State as reading
+use Rattle.pointer_state.specs.declared.State.the-variants.{Normal, Alarm, Lost}
+use Rattle.pointer_state.specs.State.{isNormal, isAlarm, isLost}
 use Rattle.pointer.specs.declared.AfterWord.{AfterWord}
 use Rattle.monitor.specs.Monitoring.{blankOf}
 use Rattle.monitor.specs.declared.Monitor.{Monitor}

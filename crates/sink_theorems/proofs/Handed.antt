@@ -9,7 +9,7 @@ use Rattle.refusals.specs.declared.Answer.the-variants.{Done, Refused}
 use Rattle.refusals.proofs.Wrong.{outcome-done, outcome-by}
 use Rattle.shape.specs.Shape.{Fit}
 use Rattle.shape.specs.declared.Shape.{Shape}
-use Rattle.pointer.specs.Machine.{isNormal, offsetOf}
+use Rattle.pointer_state.specs.State.{isNormal, offsetOf}
 use Rattle.pointer.specs.declared.AfterWord.{AfterWord}
 use Rattle.cut.specs.Cut.{completedOf, insidePart, oneIf, endedOf, doneOf}
 use Rattle.cut.specs.declared.Cut.{Cut}

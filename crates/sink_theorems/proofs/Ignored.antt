@@ -16,8 +16,8 @@ use Rattle.shape.specs.declared.Adjustment.the-variants as adjusts
 use Rattle.shape.proofs.Offsets.{run-begins}
 use Rattle.pointer_rules.specs.Rules.{restarts, adjustmentOf}
 use Rattle.pointer_rules.specs.declared.Taken.{Taken}
-use Rattle.pointer_rules.specs.declared.Taken.the-variants.{AlarmWord, NewData, Resync, Plain, Increment, Decrement, Nothing, Invalid}
-use Rattle.pointer.specs.Machine.{isNormal, offsetOf}
+use Rattle.pointer_rules.specs.declared.Taken.the-variants.{AlarmWord, NewData, Resync, Adjusted, Plain, Invalid}
+use Rattle.pointer_state.specs.State.{isNormal, offsetOf}
 use Rattle.pointer.specs.declared.Pointer.{Pointer}
 use Rattle.cut.specs.Cut.{nextOf, insideOf, beginOf, cutOf, completedOf, insidePart, doneOf, heldOf}
 use Rattle.cut.specs.declared.Cut.{Cut}
@@ -155,10 +155,8 @@ unfolding fromIn restarts adjustmentOf runFrom
 begins-run s AlarmWord offset = omega arith
 begins-run s (NewData v) offset = omega arith
 begins-run s (Resync v) offset = omega arith
+begins-run s (Adjusted a v) offset = omega arith
 begins-run s Plain offset = omega arith
-begins-run s (Increment v) offset = omega arith
-begins-run s (Decrement v) offset = omega arith
-begins-run s Nothing offset = omega arith
 begins-run s Invalid offset = omega arith
 
 run-h3 : (step : ℕ) (a : Adjustment) → (a ≡ adjusts.Decrement → ⊥) → 3 * step ≤ runFrom step a

@@ -8,7 +8,7 @@ use Rattle.settings.specs.declared.Settings.{Settings}
 use Rattle.refusals.specs.Refusals.{answerNumber, answerOf}
 use Rattle.shape.specs.Shape.{au4}
 use Rattle.pointer_rules.specs.Rules.{noRun}
-use Rattle.pointer_rules.specs.declared.State.the-variants.{Normal}
+use Rattle.pointer_state.specs.declared.State.the-variants.{Normal}
 use Rattle.pointer.specs.Machine as pointer
 use Rattle.monitor.specs.Monitoring as monitor
 use Rattle.sink.specs.Sink.{sinkFaults}

@@ -14,8 +14,9 @@ use Rattle.shape.specs.declared.Shape.{Shape}
 use Rattle.shape.proofs.Offsets.{held-none}
 use Rattle.pointer_rules.specs.Rules.{restarts, adjustmentOf}
 use Rattle.pointer_rules.specs.declared.Taken.{Taken}
-use Rattle.pointer_rules.specs.declared.State as reading
-use Rattle.pointer_rules.specs.declared.State.the-variants.{Normal, Alarm, Lost}
+use Rattle.pointer_state.specs.declared.State as reading
+use Rattle.pointer_state.specs.declared.State.the-variants.{Normal, Alarm, Lost}
+use Rattle.pointer_state.specs.State.{isNormal, offsetOf}
 use Rattle.pointer.specs.Machine as pointer
 use Rattle.pointer.specs.declared.AfterWord.{AfterWord}
 use Rattle.pointer.proofs.Ranges.{offset-low, step-in-range, fresh-in-range, Goes, going}
@@ -52,8 +53,8 @@ both-range s c completed inside m e h =
 -- ---- one unit
 
 -- nothing is held outside normal
-held-silent : (s : Shape) (x : reading.State) → pointer.isNormal x ≡ false → heldCount s (pointer.offsetOf x) ≡ 0
-unfolding pointer.isNormal pointer.offsetOf
+held-silent : (s : Shape) (x : reading.State) → isNormal x ≡ false → heldCount s (offsetOf x) ≡ 0
+unfolding isNormal offsetOf
 held-silent s (Normal v) h = absurd (false≢true (sym h))
 held-silent s Alarm h = held-none s
 held-silent s Lost h = held-none s
@@ -66,31 +67,31 @@ module _ (s : Shape) (f : Fit s) (state : State) (r : Ranged s state) (unit : Li
   unfolding pointed
   pointer-kept = step-in-range (s .top) (state .pointer) _ (r .pointer-in)
 
-  goes : restarts (a .taken) ≡ false → pointer.isNormal (a .pointer .state) ≡ true → Goes (s .top) (adjustmentOf (a .taken)) (state .pointer .state) (a .pointer .state)
+  goes : restarts (a .taken) ≡ false → isNormal (a .pointer .state) ≡ true → Goes (s .top) (adjustmentOf (a .taken)) (state .pointer .state) (a .pointer .state)
   unfolding pointed
   goes = going (s .top) (state .pointer) _
 
   -- the held count after a unit that ends normal, by whether it restarts
-  rest-by : (b : Bool) → restarts (a .taken) ≡ b → pointer.isNormal (a .pointer .state) ≡ true
-      → cutOf s (cond b 0 (state .held)) (fromIn s b (adjustmentOf (a .taken)) (pointer.offsetOf (a .pointer .state))) .rest ≡ heldIn s (a .pointer)
+  rest-by : (b : Bool) → restarts (a .taken) ≡ b → isNormal (a .pointer .state) ≡ true
+      → cutOf s (cond b 0 (state .held)) (fromIn s b (adjustmentOf (a .taken)) (offsetOf (a .pointer .state))) .rest ≡ heldIn s (a .pointer)
   unfolding fromIn
-  rest-by true h n = rest-restarts s (pointer.offsetOf (a .pointer .state)) f (offset-low (s .top) (a .pointer) pointer-kept)
+  rest-by true h n = rest-restarts s (offsetOf (a .pointer .state)) f (offset-low (s .top) (a .pointer) pointer-kept)
   rest-by false h n =
       rw (r .held-is, goes h n .moved)
-      (rest-goes s (adjustmentOf (a .taken)) (pointer.offsetOf (state .pointer .state)) f (offset-low (s .top) (state .pointer) (r .pointer-in)))
+      (rest-goes s (adjustmentOf (a .taken)) (offsetOf (state .pointer .state)) f (offset-low (s .top) (state .pointer) (r .pointer-in)))
 
   -- what a unit leaves is in range
   leaving-monitor : (e : Settings) (held done : List ℕ) → monitor.monitorInRange (unitOutcome s state a e unit held done .after .monitor) ≡ true
   unfolding unitOutcome receivedNormal silence
   leaving-monitor e held done =
-      by-test (λ (l : UnitOutcome). monitor.monitorInRange (l .after .monitor) ≡ true) (pointer.isNormal (a .pointer .state))
-      (λ _. both-range s (cutIn s (a .taken) (pointer.offsetOf (a .pointer .state)) (state .held)) _ _ (monitorIn (a .taken) (state .monitor)) e (met-range (a .taken) (state .monitor) (r .monitor-in)))
+      by-test (λ (l : UnitOutcome). monitor.monitorInRange (l .after .monitor) ≡ true) (isNormal (a .pointer .state))
+      (λ _. both-range s (cutIn s (a .taken) (offsetOf (a .pointer .state)) (state .held)) _ _ (monitorIn (a .taken) (state .monitor)) e (met-range (a .taken) (state .monitor) (r .monitor-in)))
       (λ _. blank-range 48 (omega arith))
 
   leaving-held : (e : Settings) (held done : List ℕ) → unitOutcome s state a e unit held done .after .held ≡ heldIn s (a .pointer)
   unfolding unitOutcome receivedNormal silence bothSeen beginIn
   leaving-held e held done =
-      by-test (λ (l : UnitOutcome). l .after .held ≡ heldIn s (a .pointer)) (pointer.isNormal (a .pointer .state))
+      by-test (λ (l : UnitOutcome). l .after .held ≡ heldIn s (a .pointer)) (isNormal (a .pointer .state))
       (λ n. rest-by (restarts (a .taken)) refl n)
       (λ n. sym (held-silent s (a .pointer .state) n))
 
@@ -112,7 +113,7 @@ call-in-range s c state f h =
 -- ---- any row of calls
 
 fresh-in : (s : Shape) → sinkOutOfRange s freshSink ≡ false
-unfolding freshSink pointer.offsetOf pointer.freshPointer
+unfolding freshSink offsetOf pointer.freshPointer
 fresh-in s = in-range s freshSink (record { pointer-in = fresh-in-range (s .top); monitor-in = blank-range 0 (omega arith); held-is = sym (held-none s) })
 
 calls-in-range : (s : Shape) (state : State) (calls : List SinkCall) → Fit s → sinkOutOfRange s state ≡ false → sinkOutOfRange s (afterCalls s state calls) ≡ false

@@ -14,20 +14,14 @@ enum-told-2 c = search needs
 enum-told-3 : tie.Need-enum-told-3
 enum-told-3 c = search needs
 
+enum-known-t : tie.Need-enum-known-t
+enum-known-t c = search needs
+
 enum-told-4 : tie.Need-enum-told-4
 enum-told-4 c = search needs
 
 enum-told-5 : tie.Need-enum-told-5
 enum-told-5 c = search needs
-
-enum-told-6 : tie.Need-enum-told-6
-enum-told-6 c = search needs
-
-enum-told-7 : tie.Need-enum-told-7
-enum-told-7 c = search needs
-
-enum-told-8 : tie.Need-enum-told-8
-enum-told-8 c = search needs
 
 returns : tie.Need-returns
 unfolding adjustmentOf
@@ -53,14 +47,6 @@ returns-6 : tie.Need-returns-6
 unfolding adjustmentOf
 returns-6 c = search tests
 
-returns-7 : tie.Need-returns-7
-unfolding adjustmentOf
-returns-7 c = search tests
-
-returns-8 : tie.Need-returns-8
-unfolding adjustmentOf
-returns-8 c = search tests
-
 pub adjustment-of-spec : {M : Type 1} → statement M
 adjustment-of-spec =
     tie.close
@@ -68,16 +54,12 @@ adjustment-of-spec =
     enum-told
     enum-told-2
     enum-told-3
+    enum-known-t
     enum-told-4
     enum-told-5
-    enum-told-6
-    enum-told-7
-    enum-told-8
     returns
     returns-2
     returns-3
     returns-4
     returns-5
-    returns-6
-    returns-7
-    returns-8)
+    returns-6)

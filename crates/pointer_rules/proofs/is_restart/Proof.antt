@@ -23,12 +23,6 @@ enum-told-5 c = search needs
 enum-told-6 : tie.Need-enum-told-6
 enum-told-6 c = search needs
 
-enum-told-7 : tie.Need-enum-told-7
-enum-told-7 c = search needs
-
-enum-told-8 : tie.Need-enum-told-8
-enum-told-8 c = search needs
-
 returns : tie.Need-returns
 unfolding restarts
 returns c = search tests
@@ -53,14 +47,6 @@ returns-6 : tie.Need-returns-6
 unfolding restarts
 returns-6 c = search tests
 
-returns-7 : tie.Need-returns-7
-unfolding restarts
-returns-7 c = search tests
-
-returns-8 : tie.Need-returns-8
-unfolding restarts
-returns-8 c = search tests
-
 pub is-restart-spec : {M : Type 1} → statement M
 is-restart-spec =
     tie.close
@@ -71,13 +57,9 @@ is-restart-spec =
     enum-told-4
     enum-told-5
     enum-told-6
-    enum-told-7
-    enum-told-8
     returns
     returns-2
     returns-3
     returns-4
     returns-5
-    returns-6
-    returns-7
-    returns-8)
+    returns-6)

@@ -1,9 +1,9 @@
--- `pointer::normal` meets its contract: an answer for each case. Assumes nothing.
-use Rattle.pointer.specs.Machine.{isNormal}
+-- `pointer_state::normal` meets its contract: an answer for each case. Assumes nothing.
+use Rattle.pointer_state.specs.State.{isNormal}
 use Rattle.laws.proofs.Tests.{tests}
 use borrow.Author.Needs.{needs}
-use Rattle.pointer.proofs.normal.Statement.{statement}
-use Rattle.pointer.proofs.normal.Tie as tie
+use Rattle.pointer_state.proofs.normal.Statement.{statement}
+use Rattle.pointer_state.proofs.normal.Tie as tie
 
 enum-told : tie.Need-enum-told
 enum-told c = search needs

@@ -1,9 +1,9 @@
--- `pointer::alarm` meets its contract: an answer for each case. Assumes nothing.
-use Rattle.pointer.specs.Machine.{isAlarm}
+-- `pointer_state::alarm` meets its contract: an answer for each case. Assumes nothing.
+use Rattle.pointer_state.specs.State.{isAlarm}
 use Rattle.laws.proofs.Tests.{tests}
 use borrow.Author.Needs.{needs}
-use Rattle.pointer.proofs.alarm.Statement.{statement}
-use Rattle.pointer.proofs.alarm.Tie as tie
+use Rattle.pointer_state.proofs.alarm.Statement.{statement}
+use Rattle.pointer_state.proofs.alarm.Tie as tie
 
 enum-told : tie.Need-enum-told
 enum-told c = search needs
