@@ -34,6 +34,14 @@ use Rattle.counts.proofs.one_more.Kinds as counts-one-more
 use Rattle.counts.proofs.one_more.Reads as counts-one-more-promise
 use Rattle.counts.proofs.run_on.Kinds as counts-run-on
 use Rattle.counts.proofs.run_on.Reads as counts-run-on-promise
+use Rattle.pointer_state.proofs.normal.Kinds as pointer-state-normal
+use Rattle.pointer_state.proofs.normal.Reads as pointer-state-normal-promise
+use Rattle.pointer_state.proofs.alarm.Kinds as pointer-state-alarm
+use Rattle.pointer_state.proofs.alarm.Reads as pointer-state-alarm-promise
+use Rattle.pointer_state.proofs.offset.Kinds as pointer-state-offset
+use Rattle.pointer_state.proofs.offset.Reads as pointer-state-offset-promise
+use Rattle.pointer_state.proofs.is_placed.Kinds as pointer-state-is-placed
+use Rattle.pointer_state.proofs.is_placed.Reads as pointer-state-is-placed-promise
 use Rattle.pointer_rules.proofs.run_after.Kinds as pointer-rules-run-after
 use Rattle.pointer_rules.proofs.run_after.Reads as pointer-rules-run-after-promise
 use Rattle.pointer_rules.proofs.take.Kinds as pointer-rules-take
@@ -48,12 +56,6 @@ use Rattle.pointer.proofs.step.Kinds as pointer-step
 use Rattle.pointer.proofs.step.Reads as pointer-step-promise
 use Rattle.pointer.proofs.in_range.Kinds as pointer-in-range
 use Rattle.pointer.proofs.in_range.Reads as pointer-in-range-promise
-use Rattle.pointer.proofs.normal.Kinds as pointer-normal
-use Rattle.pointer.proofs.normal.Reads as pointer-normal-promise
-use Rattle.pointer.proofs.alarm.Kinds as pointer-alarm
-use Rattle.pointer.proofs.alarm.Reads as pointer-alarm-promise
-use Rattle.pointer.proofs.offset.Kinds as pointer-offset
-use Rattle.pointer.proofs.offset.Reads as pointer-offset-promise
 use Rattle.cut.proofs.cut_unit.Kinds as cut-unit
 use Rattle.cut.proofs.cut_unit.Reads as cut-unit-promise
 use Rattle.overhead.proofs.violations.Kinds as overhead-violations
@@ -119,6 +121,20 @@ counts-one-more-determined κs a x y s t p q = p ∙ sym q
 pub counts-run-on-determined : Determines {O = ℕ} 0 counts-run-on.ps counts-run-on.r counts-run-on-promise.Post (λ κs r e. r)
 counts-run-on-determined κs a x y s t p q = p ∙ sym q
 
+-- ---- pointer_state
+
+pub pointer-state-normal-determined : Determines {O = Bool} 0 pointer-state-normal.ps pointer-state-normal.r pointer-state-normal-promise.Post (λ κs r e. r)
+pointer-state-normal-determined κs a x y s t p q = p ∙ sym q
+
+pub pointer-state-alarm-determined : Determines {O = Bool} 0 pointer-state-alarm.ps pointer-state-alarm.r pointer-state-alarm-promise.Post (λ κs r e. r)
+pointer-state-alarm-determined κs a x y s t p q = p ∙ sym q
+
+pub pointer-state-offset-determined : Determines {O = ℕ} 0 pointer-state-offset.ps pointer-state-offset.r pointer-state-offset-promise.Post (λ κs r e. r)
+pointer-state-offset-determined κs a x y s t p q = p ∙ sym q
+
+pub pointer-state-is-placed-determined : Determines {O = Bool} 0 pointer-state-is-placed.ps pointer-state-is-placed.r pointer-state-is-placed-promise.Post (λ κs r e. r)
+pointer-state-is-placed-determined κs a x y s t p q = p ∙ sym q
+
 -- ---- pointer_rules
 
 pub pointer-rules-run-after-determined : Determines {O = Run} 0 pointer-rules-run-after.ps pointer-rules-run-after.r pointer-rules-run-after-promise.Post (λ κs r e. r)
@@ -143,15 +159,6 @@ pointer-step-determined κs a x y s t p q = p ∙ sym q
 
 pub pointer-in-range-determined : Determines {O = Bool} 0 pointer-in-range.ps pointer-in-range.r pointer-in-range-promise.Post (λ κs r e. r)
 pointer-in-range-determined κs a x y s t p q = p ∙ sym q
-
-pub pointer-normal-determined : Determines {O = Bool} 0 pointer-normal.ps pointer-normal.r pointer-normal-promise.Post (λ κs r e. r)
-pointer-normal-determined κs a x y s t p q = p ∙ sym q
-
-pub pointer-alarm-determined : Determines {O = Bool} 0 pointer-alarm.ps pointer-alarm.r pointer-alarm-promise.Post (λ κs r e. r)
-pointer-alarm-determined κs a x y s t p q = p ∙ sym q
-
-pub pointer-offset-determined : Determines {O = ℕ} 0 pointer-offset.ps pointer-offset.r pointer-offset-promise.Post (λ κs r e. r)
-pointer-offset-determined κs a x y s t p q = p ∙ sym q
 
 -- ---- cut
 
