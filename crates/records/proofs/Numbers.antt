@@ -5,7 +5,8 @@ use Prim.Native.Nat.{ℕ}
 use Rattle.refusals.proofs.Wrong.{Numbered, numbered-row, numbered-last}
 use Rattle.records.specs.Refusals.{catalogueNumber, cataloguePlaces, catalogueSays}
 use Rattle.records.specs.Faults.{recordFaults}
+use Rattle.records.specs.declared.Kind.{Kind}
 
-pub record-numbered : (place : ℕ) (r : List ℕ) → Numbered catalogueSays (recordFaults place r)
+pub record-numbered : (kind : Kind) (place : ℕ) (r : List ℕ) → Numbered catalogueSays (recordFaults kind place r)
 unfolding recordFaults catalogueSays catalogueNumber cataloguePlaces
-record-numbered place r = search (numbered-row, numbered-last)
+record-numbered kind place r = search (numbered-row, numbered-last)
