@@ -107,11 +107,11 @@ fn places(out: &mut [u8], at: usize, x: Refusal) -> usize
 {
     match x {
         Refusal::Length => at,
-        Refusal::Mark(p)
-        | Refusal::Circuit(p)
-        | Refusal::Label(p)
-        | Refusal::Trace(p)
-        | Refusal::Flags(p) => place(out, at, p),
+        Refusal::Mark(p) => place(out, at, p),
+        Refusal::Circuit(p) => place(out, at, p),
+        Refusal::Label(p) => place(out, at, p),
+        Refusal::Trace(p) => place(out, at, p),
+        Refusal::Flags(p) => place(out, at, p),
         Refusal::Repeated(later, first) => {
             let a = place(out, at, later);
             place(out, a, first)
