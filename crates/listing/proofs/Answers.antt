@@ -6,7 +6,7 @@ use native.Mathlib.Omega.{arith}
 use lib.ListN.{length, take}
 use lib.Seq.{length-take-le}
 use Rattle.copier.proofs.Put.{length-piece}
-use Rattle.text.specs.Text.{Written}
+use Rattle.text.specs.Inner.{Written}
 use Rattle.text.proofs.Pieces.{written-then}
 use Rattle.catalogue.specs.Catalogue.{Checks}
 use Rattle.records.specs.Record.{oldKind, mostRecords}
@@ -16,7 +16,8 @@ use Rattle.records.specs.declared.Refusal.{Refusal}
 use Rattle.catalogue.specs.declared.Checked.{Checked}
 use Rattle.catalogue.specs.declared.Checked.the-variants.{Good, Refused}
 use Rattle.catalogue.proofs.Answers.{good-length}
-use Rattle.listing.specs.Listing.{heading, linesFrom, refusalLine, textOf, listingOf, Within, Listed}
+use Rattle.listing.specs.Listing.{heading, linesFrom, refusalLine, textOf, listingOf, Listed}
+use Rattle.listing.specs.Inner.{Within}
 
 -- the heading, and then the lines
 pub good-written : (kind : Kind) (s b m a : List ℕ) (at n e : ℕ) → 26 + 31 * n ≤ length b → Written 0 heading b m at → Within (31 * n) at (linesFrom kind s 0 n) m a e

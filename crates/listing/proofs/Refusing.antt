@@ -4,12 +4,14 @@ use mathlib.Core.List.{List, [], _∷_, append-assoc, append-nil}
 use Prim.Native.Nat.{ℕ, _+_, _≤_}
 use native.Mathlib.Omega.{arith}
 use lib.ListN.{length}
-use Rattle.text.specs.Text.{decimalOf, Written}
+use Rattle.text.specs.Text.{decimalOf}
+use Rattle.text.specs.Inner.{Written}
 use Rattle.text.proofs.Digits.{length-most}
 use Rattle.text.proofs.Pieces.{length-written, written-none}
 use Rattle.records.specs.Refusals.{catalogueNumber, cataloguePlaces}
 use Rattle.records.specs.declared.Refusal.{Refusal}
-use Rattle.listing.specs.Listing.{blankBefore, refusalLine, Short, Within}
+use Rattle.listing.specs.Listing.{blankBefore, refusalLine}
+use Rattle.listing.specs.Inner.{Short, Within}
 use Rattle.listing.proofs.Writing.{within, within-number, within-then}
 
 -- ---- a place

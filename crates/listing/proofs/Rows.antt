@@ -9,7 +9,8 @@ use lib.ListN.{length}
 use Rattle.text.proofs.Pieces.{written-none}
 use Rattle.records.specs.Record.{recordAt}
 use Rattle.records.specs.declared.Kind.{Kind}
-use Rattle.listing.specs.Listing.{lineOf, linesFrom, Within}
+use Rattle.listing.specs.Listing.{lineOf, linesFrom}
+use Rattle.listing.specs.Inner.{Within}
 use Rattle.listing.proofs.Writing.{within, within-then}
 
 -- one record more, at the end

@@ -5,7 +5,7 @@ use mathlib.Core.Path.{_≡_}
 use mathlib.Core.List.{List, [], _∷_, _++_}
 use lib.ListN.{length}
 use Rattle.copier.specs.Put.{put}
-use Rattle.text.specs.Text.{decimalOf, hexOf, Written}
+use Rattle.text.specs.Text.{decimalOf, hexOf}
 use Rattle.records.specs.Record.{recordAt, circuitIn, labelIn, traceIn, flagsIn}
 use Rattle.records.specs.Refusals.{catalogueNumber, cataloguePlaces}
 use Rattle.catalogue.specs.Catalogue.{checkOf}
@@ -55,18 +55,7 @@ textOf kind s (Refused x) = refusalLine x
 unfoldable pub listingOf : Kind → List ℕ → List ℕ
 listingOf kind s = textOf kind s (checkOf kind s)
 
--- ---- what the functions answer
-
--- the number x, read as n, with how many digits it has at most
-pub record Short (digits x n : ℕ) : Type 0 where
-  pub is : n ≡ x
-  pub short : length (decimalOf n) ≤ digits
-
--- a piece was written, of so many bytes at most. A line of any record is at most 31: a number of five digits, a label of two, 15 characters,
--- flags of three digits, and six bytes between and after them
-pub record Within (most at : ℕ) (piece before after : List ℕ) (next : ℕ) : Type 0 where
-  pub written : Written at piece before after next
-  pub short : next ≤ at + most
+-- ---- the promise
 
 -- the listing stands at the start of the buffer, and is so many bytes long
 pub record Listed (kind : Kind) (s before after : List ℕ) (n : ℕ) : Type 0 where

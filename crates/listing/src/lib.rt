@@ -1,5 +1,5 @@
 // The listing of a catalogue as text, in a lent buffer: the heading and a line for each record, or the one line of a refusal.
-// What it is stands in specs/Listing.antt. The program `list` prints it.
+// What it is stands in specs/Listing.antt, and what the functions inside answer in specs/Inner.antt. The program `list` prints it.
 use catalogue::Checked;
 use records::Kind;
 use records::Refusal;
@@ -7,11 +7,13 @@ ghost use mathlib.Core.Path.{_≡_};
 ghost use mathlib.Core.List.{_∷_, _++_};
 ghost use Prim.Native.Nat.{_+_, _*_, _<_, _≤_};
 ghost use lib.ListN.{length};
-ghost use Rattle.text.specs.Text.{decimalOf, Written};
+ghost use Rattle.text.specs.Text.{decimalOf};
+ghost use Rattle.text.specs.Inner.{Written};
 ghost use Rattle.records.specs.Record.{oldKind, circuitIn, flagsIn};
 ghost use Rattle.records.specs.Inner.{fieldBytes, Serves};
 ghost use Rattle.records.specs.Refusals.{catalogueNumber, cataloguePlaces};
-ghost use Rattle.listing.specs.Listing.{heading, numberAndLabel, traceAndFlags, lineOf, linesFrom, blankBefore, refusalLine, Short, Within, Listed};
+ghost use Rattle.listing.specs.Listing.{heading, numberAndLabel, traceAndFlags, lineOf, linesFrom, blankBefore, refusalLine, Listed};
+ghost use Rattle.listing.specs.Inner.{Short, Within};
 
 // A byte as a number of 64 bits.
 fn wide(x: u8) -> u64

@@ -8,7 +8,7 @@ use borrow.Fn.Kinds.{Out, endedOf, PK, RK, Dens, resT}
 use contract.Lifetimes.{Lfts}
 use denote.Triple.Clauses.{AtExit}
 use denote.Ref.{now}
-use Rattle.text.specs.Text.{Written}
+use Rattle.text.specs.Inner.{Written}
 use Rattle.records.specs.declared.Kind.{Kind}
 use Rattle.records.specs.declared.First.{First}
 use Rattle.catalogue.specs.declared.Checked.{Checked}

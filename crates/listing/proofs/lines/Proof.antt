@@ -5,7 +5,8 @@ use native.Mathlib.Omega.{arith}
 use lib.ListN.{length}
 use borrow.Author.Needs.{needs}
 use Rattle.records.proofs.Places.{record-within}
-use Rattle.listing.specs.Listing.{linesFrom, Within}
+use Rattle.listing.specs.Listing.{linesFrom}
+use Rattle.listing.specs.Inner.{Within}
 use Rattle.listing.proofs.Rows.{lines-none, lines-turn, lines-end}
 use Rattle.listing.proofs.lines.Statement.{statement}
 use Rattle.listing.proofs.lines.Tie as tie
