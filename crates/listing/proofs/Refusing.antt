@@ -4,13 +4,14 @@ use mathlib.Core.List.{List, [], _∷_, append-assoc, append-nil}
 use Prim.Native.Nat.{ℕ, _+_, _≤_}
 use native.Mathlib.Omega.{arith}
 use lib.ListN.{length}
-use Rattle.text.specs.Text.{decimalOf, Written}
+use Rattle.text.specs.Text.{decimalOf}
+use Rattle.text.specs.Inner.{Written}
 use Rattle.text.proofs.Digits.{length-most}
 use Rattle.text.proofs.Pieces.{length-written, written-none}
 use Rattle.records.specs.Refusals.{catalogueNumber, cataloguePlaces}
 use Rattle.records.specs.declared.Refusal.{Refusal}
-use Rattle.records.specs.declared.Refusal.the-variants.{Length, Repeated, NotListed}
-use Rattle.listing.specs.Listing.{blankBefore, refusalLine, Short, Within}
+use Rattle.listing.specs.Listing.{blankBefore, refusalLine}
+use Rattle.listing.specs.Inner.{Short, Within}
 use Rattle.listing.proofs.Writing.{within, within-number, within-then}
 
 -- ---- a place
@@ -23,23 +24,6 @@ module _ (b m : List ℕ) (at i p : ℕ) (h : at + 21 ≤ length b) (w : Written
   place-within a n v = within-then (within 1 w (omega arith)) (within 20 v (length-most p)) (omega arith)
 
 -- ---- no place, one, and two
-
-module _ {x : Refusal} where
-  pub of-length : x ≡ Length → cataloguePlaces x ≡ []
-  unfolding cataloguePlaces
-  of-length e = rw e
-
-  pub of-not-listed : x ≡ NotListed → cataloguePlaces x ≡ []
-  unfolding cataloguePlaces
-  of-not-listed e = rw e
-
-  -- y names the place q, which was read as p
-  pub of-one : {y : Refusal} {p q : ℕ} → x ≡ y → cataloguePlaces y ≡ q ∷ [] → p ≡ q → cataloguePlaces x ≡ p ∷ []
-  of-one e f g = rw (e, f, g)
-
-  pub of-repeated : {p q : ℕ} → x ≡ Repeated p q → cataloguePlaces x ≡ p ∷ q ∷ []
-  unfolding cataloguePlaces
-  of-repeated e = rw e
 
 module _ (b : List ℕ) (ps : List ℕ) (at : ℕ) where
   pub places-none : ps ≡ [] → Within 42 at (blankBefore ps) b b at

@@ -8,27 +8,29 @@ use native.Mathlib.Omega.{arith}
 use lib.ListN.{length}
 use Rattle.text.proofs.Pieces.{written-none}
 use Rattle.records.specs.Record.{recordAt}
-use Rattle.listing.specs.Listing.{lineOf, linesFrom, Within}
+use Rattle.records.specs.declared.Kind.{Kind}
+use Rattle.listing.specs.Listing.{lineOf, linesFrom}
+use Rattle.listing.specs.Inner.{Within}
 use Rattle.listing.proofs.Writing.{within, within-then}
 
 -- one record more, at the end
-lines-snoc : (s : List ℕ) (k n : ℕ) → linesFrom s k (suc n) ≡ linesFrom s k n ++ lineOf (recordAt s (k + n))
+lines-snoc : (kind : Kind) (s : List ℕ) (k n : ℕ) → linesFrom kind s k (suc n) ≡ linesFrom kind s k n ++ lineOf (recordAt kind s (k + n))
 unfolding linesFrom
-lines-snoc s k zero = rw add-zero (append-nil (lineOf (recordAt s k)))
-lines-snoc s k (suc n) =
+lines-snoc kind s k zero = rw add-zero (append-nil (lineOf (recordAt kind s k)))
+lines-snoc kind s k (suc n) =
     let e : k + 1 + n ≡ k + suc n = omega arith in
-    rw (append-assoc, ← e, ← (lines-snoc s (k + 1) n))
+    rw (append-assoc, ← e, ← (lines-snoc kind s (k + 1) n))
 
-pub lines-none : (s b : List ℕ) (at : ℕ) → Within (31 * 0) at (linesFrom s 0 0) b b at
+pub lines-none : (kind : Kind) (s b : List ℕ) (at : ℕ) → Within (31 * 0) at (linesFrom kind s 0 0) b b at
 unfolding linesFrom
-lines-none s b at = within (31 * 0) (written-none at b) (omega arith)
+lines-none kind s b at = within (31 * 0) (written-none at b) (omega arith)
 
-pub lines-turn : (s r b m a : List ℕ) (at n k e e′ : ℕ) → k < n → at + 31 * n ≤ length b → r ≡ recordAt s k
-    → Within (31 * k) at (linesFrom s 0 k) b m e → Within 31 e (lineOf r) m a e′
-    → Within (31 * (k + 1)) at (linesFrom s 0 (k + 1)) b a e′
-lines-turn s r b m a at n k e e′ l h is-r w v =
+pub lines-turn : (kind : Kind) (s r b m a : List ℕ) (at n k e e′ : ℕ) → k < n → at + 31 * n ≤ length b → r ≡ recordAt kind s k
+    → Within (31 * k) at (linesFrom kind s 0 k) b m e → Within 31 e (lineOf r) m a e′
+    → Within (31 * (k + 1)) at (linesFrom kind s 0 (k + 1)) b a e′
+lines-turn kind s r b m a at n k e e′ l h is-r w v =
     let q : 31 * (k + 1) ≡ 31 * k + 31 = omega arith in
-    rw (q, add-one, lines-snoc s 0 k, zero-add, ← is-r) (within-then w v (omega arith))
+    rw (q, add-one, lines-snoc kind s 0 k, zero-add, ← is-r) (within-then w v (omega arith))
 
-pub lines-end : (s b a : List ℕ) (at n k e : ℕ) → k ≤ n → n ≤ k → Within (31 * k) at (linesFrom s 0 k) b a e → Within (31 * n) at (linesFrom s 0 n) b a e
-lines-end s b a at n k e h l w = let q : n ≡ k = omega arith in rw q w
+pub lines-end : (kind : Kind) (s b a : List ℕ) (at n k e : ℕ) → k ≤ n → n ≤ k → Within (31 * k) at (linesFrom kind s 0 k) b a e → Within (31 * n) at (linesFrom kind s 0 n) b a e
+lines-end kind s b a at n k e h l w = let q : n ≡ k = omega arith in rw q w

@@ -4,11 +4,13 @@ use mathlib.Core.List.{List, [], _∷_, _++_, append-assoc}
 use Prim.Native.Nat.{ℕ, _+_, _<_, _≤_}
 use native.Mathlib.Omega.{arith}
 use lib.ListN.{length, getD}
-use Rattle.text.specs.Text.{decimalOf, hexOf, Written}
+use Rattle.text.specs.Text.{decimalOf, hexOf}
+use Rattle.text.specs.Inner.{Written}
 use Rattle.text.proofs.Digits.{length-decimal}
 use Rattle.text.proofs.Pieces.{written-then}
 use Rattle.records.specs.Record.{circuitIn, labelIn, traceIn, flagsIn}
-use Rattle.listing.specs.Listing.{numberAndLabel, traceAndFlags, lineOf, Short, Within}
+use Rattle.listing.specs.Listing.{numberAndLabel, traceAndFlags, lineOf}
+use Rattle.listing.specs.Inner.{Short, Within}
 
 -- ---- Within
 

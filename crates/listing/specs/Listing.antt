@@ -5,10 +5,11 @@ use mathlib.Core.Path.{_≡_}
 use mathlib.Core.List.{List, [], _∷_, _++_}
 use lib.ListN.{length}
 use Rattle.copier.specs.Put.{put}
-use Rattle.text.specs.Text.{decimalOf, hexOf, Written}
+use Rattle.text.specs.Text.{decimalOf, hexOf}
 use Rattle.records.specs.Record.{recordAt, circuitIn, labelIn, traceIn, flagsIn}
 use Rattle.records.specs.Refusals.{catalogueNumber, cataloguePlaces}
 use Rattle.catalogue.specs.Catalogue.{checkOf}
+use Rattle.records.specs.declared.Kind.{Kind}
 use Rattle.records.specs.declared.Refusal.{Refusal}
 use Rattle.catalogue.specs.declared.Checked.{Checked}
 use Rattle.catalogue.specs.declared.Checked.the-variants.{Good, Refused}
@@ -34,9 +35,9 @@ unfoldable pub lineOf : List ℕ → List ℕ
 lineOf r = numberAndLabel r ++ (0x20 ∷ (traceAndFlags r ++ (0x0a ∷ [])))
 
 -- the n records from record k on
-unfoldable pub linesFrom : List ℕ → ℕ → ℕ → List ℕ
-linesFrom s k zero = []
-linesFrom s k (suc n) = lineOf (recordAt s k) ++ linesFrom s (k + 1) n
+unfoldable pub linesFrom : Kind → List ℕ → ℕ → ℕ → List ℕ
+linesFrom kind s k zero = []
+linesFrom kind s k (suc n) = lineOf (recordAt kind s k) ++ linesFrom kind s (k + 1) n
 
 -- numbers, a blank before each
 unfoldable pub blankBefore : List ℕ → List ℕ
@@ -47,28 +48,17 @@ blankBefore (x ∷ xs) = 0x20 ∷ (decimalOf x ++ blankBefore xs)
 unfoldable pub refusalLine : Refusal → List ℕ
 refusalLine x = decimalOf (catalogueNumber x) ++ (blankBefore (cataloguePlaces x) ++ (0x0a ∷ []))
 
-unfoldable pub textOf : List ℕ → Checked → List ℕ
-textOf s (Good n) = heading ++ linesFrom s 0 n
-textOf s (Refused x) = refusalLine x
+unfoldable pub textOf : Kind → List ℕ → Checked → List ℕ
+textOf kind s (Good n) = heading ++ linesFrom kind s 0 n
+textOf kind s (Refused x) = refusalLine x
 
-unfoldable pub listingOf : List ℕ → List ℕ
-listingOf s = textOf s (checkOf s)
+unfoldable pub listingOf : Kind → List ℕ → List ℕ
+listingOf kind s = textOf kind s (checkOf kind s)
 
--- ---- what the functions answer
-
--- the number x, read as n, with how many digits it has at most
-pub record Short (digits x n : ℕ) : Type 0 where
-  pub is : n ≡ x
-  pub short : length (decimalOf n) ≤ digits
-
--- a piece was written, of so many bytes at most. A line of any record is at most 31: a number of five digits, a label of two, 15 characters,
--- flags of three digits, and six bytes between and after them
-pub record Within (most at : ℕ) (piece before after : List ℕ) (next : ℕ) : Type 0 where
-  pub written : Written at piece before after next
-  pub short : next ≤ at + most
+-- ---- the promise
 
 -- the listing stands at the start of the buffer, and is so many bytes long
-pub record Listed (s before after : List ℕ) (n : ℕ) : Type 0 where
-  pub length-is : n ≡ length (listingOf s)
+pub record Listed (kind : Kind) (s before after : List ℕ) (n : ℕ) : Type 0 where
+  pub length-is : n ≡ length (listingOf kind s)
   pub fits : n ≤ 15898
-  pub now-is : after ≡ put 0 (listingOf s) before
+  pub now-is : after ≡ put 0 (listingOf kind s) before

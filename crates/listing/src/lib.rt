@@ -1,15 +1,19 @@
 // The listing of a catalogue as text, in a lent buffer: the heading and a line for each record, or the one line of a refusal.
-// What it is stands in specs/Listing.antt. The program `list` prints it.
+// What it is stands in specs/Listing.antt, and what the functions inside answer in specs/Inner.antt. The program `list` prints it.
 use catalogue::Checked;
+use records::Kind;
 use records::Refusal;
 ghost use mathlib.Core.Path.{_≡_};
 ghost use mathlib.Core.List.{_∷_, _++_};
 ghost use Prim.Native.Nat.{_+_, _*_, _<_, _≤_};
 ghost use lib.ListN.{length};
-ghost use Rattle.text.specs.Text.{decimalOf, Written};
-ghost use Rattle.records.specs.Record.{circuitIn, flagsIn};
+ghost use Rattle.text.specs.Text.{decimalOf};
+ghost use Rattle.text.specs.Inner.{Written};
+ghost use Rattle.records.specs.Record.{oldKind, circuitIn, flagsIn};
+ghost use Rattle.records.specs.Inner.{fieldBytes, Serves};
 ghost use Rattle.records.specs.Refusals.{catalogueNumber, cataloguePlaces};
-ghost use Rattle.listing.specs.Listing.{heading, numberAndLabel, traceAndFlags, lineOf, linesFrom, blankBefore, refusalLine, Short, Within, Listed};
+ghost use Rattle.listing.specs.Listing.{heading, numberAndLabel, traceAndFlags, lineOf, linesFrom, blankBefore, refusalLine, Listed};
+ghost use Rattle.listing.specs.Inner.{Short, Within};
 
 // A byte as a number of 64 bits.
 fn wide(x: u8) -> u64
@@ -20,7 +24,7 @@ fn wide(x: u8) -> u64
 
 // A record's circuit number, of two bytes.
 fn circuit(r: &[u8]) -> u64
-    requires { ⌜ length (now r) ≡ 21 ⌝ }
+    requires { ⌜ fieldBytes ≤ length (now r) ⌝ }
     ensures { λ n. ⌜ Short 5 (circuitIn (now (r .entry))) n ⌝ }
 {
     records::circuit(r) as u64
@@ -28,7 +32,7 @@ fn circuit(r: &[u8]) -> u64
 
 // A record's flags, of one byte.
 fn flags(r: &[u8]) -> u64
-    requires { ⌜ length (now r) ≡ 21 ⌝ }
+    requires { ⌜ fieldBytes ≤ length (now r) ⌝ }
     ensures { λ n. ⌜ Short 3 (flagsIn (now (r .entry))) n ⌝ }
 {
     wide(r[20])
@@ -36,7 +40,7 @@ fn flags(r: &[u8]) -> u64
 
 // A record's number and label.
 fn number_and_label(out: &mut [u8], at: usize, r: &[u8]) -> usize
-    requires { ⌜ (length (now r) ≡ 21) × (at + 8 ≤ length (now out)) ⌝ }
+    requires { ⌜ (fieldBytes ≤ length (now r)) × (at + 8 ≤ length (now out)) ⌝ }
     ensures { λ n. ⌜ Within 8 at (numberAndLabel (now (r .entry))) (now (out .entry)) (now (out .exit)) n ⌝ }
 {
     let a = text::decimal(out, at, circuit(r));
@@ -46,7 +50,7 @@ fn number_and_label(out: &mut [u8], at: usize, r: &[u8]) -> usize
 
 // A record's trace, in brackets, and flags.
 fn trace_and_flags(out: &mut [u8], at: usize, r: &[u8]) -> usize
-    requires { ⌜ (length (now r) ≡ 21) × (at + 21 ≤ length (now out)) ⌝ }
+    requires { ⌜ (fieldBytes ≤ length (now r)) × (at + 21 ≤ length (now out)) ⌝ }
     ensures { λ n. ⌜ Within 21 at (traceAndFlags (now (r .entry))) (now (out .entry)) (now (out .exit)) n ⌝ }
 {
     let a = text::byte(out, at, 0x5b);
@@ -57,7 +61,7 @@ fn trace_and_flags(out: &mut [u8], at: usize, r: &[u8]) -> usize
 
 // A record's line.
 fn line(out: &mut [u8], at: usize, r: &[u8]) -> usize
-    requires { ⌜ (length (now r) ≡ 21) × (at + 31 ≤ length (now out)) ⌝ }
+    requires { ⌜ (fieldBytes ≤ length (now r)) × (at + 31 ≤ length (now out)) ⌝ }
     ensures { λ n. ⌜ Within 31 at (lineOf (now (r .entry))) (now (out .entry)) (now (out .exit)) n ⌝ }
 {
     let a = number_and_label(out, at, r);
@@ -67,26 +71,26 @@ fn line(out: &mut [u8], at: usize, r: &[u8]) -> usize
 }
 
 // The lines of the n records of a file.
-fn lines(out: &mut [u8], at: usize, s: &[u8], n: usize) -> usize
-    requires { ⌜ (length (now s) ≡ 21 * n) × (at + 31 * n ≤ length (now out)) ⌝ }
-    ensures { λ e. ⌜ Within (31 * n) at (linesFrom (now (s .entry)) 0 n) (now (out .entry)) (now (out .exit)) e ⌝ }
+fn lines(kind: Kind, out: &mut [u8], at: usize, s: &[u8], n: usize) -> usize
+    requires { ⌜ (Serves kind) × ((length (now s) ≡ kind .length * n) × (at + 31 * n ≤ length (now out))) ⌝ }
+    ensures { λ e. ⌜ Within (31 * n) at (linesFrom kind (now (s .entry)) 0 n) (now (out .entry)) (now (out .exit)) e ⌝ }
 {
     let mut e = at;
     let mut k = 0;
     while k < n {
-        e = line(out, e, records::record_at(s, k));
+        e = line(out, e, records::record_at(kind, s, k));
         k += 1;
     }
     e
 }
 
 // A good catalogue of n records: the heading and the lines.
-fn good(out: &mut [u8], s: &[u8], n: usize) -> usize
-    requires { ⌜ (length (now s) ≡ 21 * n) × (26 + 31 * n ≤ length (now out)) ⌝ }
-    ensures { λ e. ⌜ Written 0 (heading ++ linesFrom (now (s .entry)) 0 n) (now (out .entry)) (now (out .exit)) e ⌝ }
+fn good(kind: Kind, out: &mut [u8], s: &[u8], n: usize) -> usize
+    requires { ⌜ (Serves kind) × ((length (now s) ≡ kind .length * n) × (26 + 31 * n ≤ length (now out))) ⌝ }
+    ensures { λ e. ⌜ Written 0 (heading ++ linesFrom kind (now (s .entry)) 0 n) (now (out .entry)) (now (out .exit)) e ⌝ }
 {
     let at = text::bytes(out, 0, b"circuit label trace flags\n");
-    lines(out, at, s, n)
+    lines(kind, out, at, s, n)
 }
 
 // A place, with a blank before it.
@@ -105,11 +109,11 @@ fn places(out: &mut [u8], at: usize, x: Refusal) -> usize
 {
     match x {
         Refusal::Length => at,
-        Refusal::Mark(p)
-        | Refusal::Circuit(p)
-        | Refusal::Label(p)
-        | Refusal::Trace(p)
-        | Refusal::Flags(p) => place(out, at, p),
+        Refusal::Mark(p) => place(out, at, p),
+        Refusal::Circuit(p) => place(out, at, p),
+        Refusal::Label(p) => place(out, at, p),
+        Refusal::Trace(p) => place(out, at, p),
+        Refusal::Flags(p) => place(out, at, p),
         Refusal::Repeated(later, first) => {
             let a = place(out, at, later);
             place(out, a, first)
@@ -138,10 +142,10 @@ fn refusal_line(out: &mut [u8], x: Refusal) -> usize
 // The listing, written from the start of the buffer on; the answer is its length. The buffer has room for the heading of 26 bytes and
 // 512 lines of 31, whatever bytes a record holds; the records of a good catalogue make lines of at most 29.
 pub fn list(s: &[u8], out: &mut [u8; 15898]) -> usize
-    ensures { λ n. ⌜ Listed (now (s .entry)) (now (out .entry)) (now (out .exit)) n ⌝ }
+    ensures { λ n. ⌜ Listed oldKind (now (s .entry)) (now (out .entry)) (now (out .exit)) n ⌝ }
 {
     match catalogue::check(s) {
-        Checked::Good(n) => good(out, s, n),
+        Checked::Good(n) => good(records::old_kind(), out, s, n),
         Checked::Refused(x) => refusal_line(out, x),
     }
 }

@@ -1,6 +1,5 @@
 -- The answers of the catalogue as plain numbers, so that tests and benchmarks in another language can read them.
 use Prim.Native.Nat.{ℕ, _+_, _*_, _%_}
-use mathlib.Core.List.{List}
 use lib.ListN.{getD}
 use Rattle.records.specs.Refusals.{catalogueNumber, cataloguePlaces}
 use Rattle.records.specs.declared.Refusal.{Refusal}

@@ -7,6 +7,7 @@ ghost use lib.Dec.{eqb};
 ghost use lib.ListN.{length};
 ghost use Rattle.trace_message.specs.Message.{startByte};
 ghost use Rattle.word.specs.Word.{plainWord, invertedWord, inverted};
+ghost use Rattle.records.specs.Record.{oldKind};
 ghost use Rattle.catalogue.specs.Catalogue.{checkOf, lookupOf};
 ghost use Rattle.listing.specs.Listing.{Listed};
 ghost use Rattle.probe.specs.Probe.{packed, packedCheck, packedFound};
@@ -89,7 +90,7 @@ fn pack_refusal(x: Refusal) -> u64
 // The check of a catalogue.
 #[no_mangle]
 pub extern "C" fn probe_check(s: &[u8]) -> u64
-    ensures { λ r. ⌜ r ≡ packedCheck (checkOf (now (s .entry))) ⌝ }
+    ensures { λ r. ⌜ r ≡ packedCheck (checkOf oldKind (now (s .entry))) ⌝ }
 {
     match catalogue::check(s) {
         Checked::Good(n) => wide(n),
@@ -109,7 +110,7 @@ fn pack_found(f: Found) -> u64
 // The lookup of a circuit in a catalogue, with the characters of its trace.
 #[no_mangle]
 pub extern "C" fn probe_lookup(s: &[u8], number: u32, characters: &mut [u8; 15]) -> u64
-    ensures { λ r. ⌜ (r ≡ packedFound (lookupOf (now (s .entry)) number .found)) × (now (characters .exit) ≡ lookupOf (now (s .entry)) number .trace) ⌝ }
+    ensures { λ r. ⌜ (r ≡ packedFound (lookupOf oldKind (now (s .entry)) number .found)) × (now (characters .exit) ≡ lookupOf oldKind (now (s .entry)) number .trace) ⌝ }
 {
     let l = catalogue::lookup(s, number);
     let t = l.trace;
@@ -121,7 +122,7 @@ pub extern "C" fn probe_lookup(s: &[u8], number: u32, characters: &mut [u8; 15])
 // The listing of a catalogue: its length, and the text from the start of the buffer on.
 #[no_mangle]
 pub extern "C" fn probe_list(s: &[u8], text: &mut [u8; 15898]) -> usize
-    ensures { λ n. ⌜ Listed (now (s .entry)) (now (text .entry)) (now (text .exit)) n ⌝ }
+    ensures { λ n. ⌜ Listed oldKind (now (s .entry)) (now (text .entry)) (now (text .exit)) n ⌝ }
 {
     listing::list(s, text)
 }

@@ -10,7 +10,8 @@ use denote.Triple.Clauses.{AtExit}
 use denote.Ref.{now}
 use Rattle.refusals.specs.declared.Answer.{Answer}
 use Rattle.settings.specs.declared.Flags.{Flags}
-use Rattle.text.specs.Text.{Written}
+use Rattle.text.specs.Inner.{Written}
+use Rattle.records.specs.declared.Kind.{Kind}
 use Rattle.records.specs.declared.First.{First}
 use Rattle.catalogue.specs.declared.Checked.{Checked}
 use Rattle.catalogue.specs.declared.Looked.{Looked}
@@ -80,6 +81,8 @@ use Rattle.copier.proofs.copy_part.Kinds as copier-copy-part
 use Rattle.copier.proofs.copy_part.Reads as copier-copy-part-promise
 use Rattle.copier.proofs.copy_at.Kinds as copier-copy-at
 use Rattle.copier.proofs.copy_at.Reads as copier-copy-at-promise
+use Rattle.records.proofs.old_kind.Kinds as records-old-kind
+use Rattle.records.proofs.old_kind.Reads as records-old-kind-promise
 use Rattle.records.proofs.record_at.Kinds as records-record-at
 use Rattle.records.proofs.record_at.Reads as records-record-at-promise
 use Rattle.records.proofs.fault.Kinds as records-fault
@@ -217,6 +220,9 @@ pub card-word-reading-determined : Determines {O = ℕ} 1 card-word-reading.ps c
 card-word-reading-determined κs a x y s t p q = p ∙ sym q
 
 -- ---- records: what is read of one, the bytes of the part that is handed back
+
+pub records-old-kind-determined : Determines {O = Kind} 0 records-old-kind.ps records-old-kind.r records-old-kind-promise.Post (λ κs r e. r)
+records-old-kind-determined κs a x y s t p q = p ∙ sym q
 
 pub records-record-at-determined : Determines {O = List ℕ} 1 records-record-at.ps records-record-at.r records-record-at-promise.Post (λ κs r e. now r)
 records-record-at-determined κs a x y s t p q = p .0 ∙ sym (q .0)

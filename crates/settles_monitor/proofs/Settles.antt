@@ -11,6 +11,7 @@ use lib.ListN.{length}
 use borrow.Author.Tests.{eq-eqb, lt-ltb, ne-eqb, ltb-false}
 use Rattle.laws.proofs.Tests.{by-test, or-false}
 use Rattle.settings.specs.Settings.{labelRefused, outside, traceRefused}
+use Rattle.settings.proofs.Laws.{by-characters}
 use Rattle.trace_message.specs.Message.{topBitsClear}
 use Rattle.trace_message.proofs.Alike.{same-alike}
 use Rattle.overhead.specs.Violations.{violationsOf, keptOf}
@@ -33,13 +34,15 @@ use Rattle.settles_monitor.proofs.Traces as traces
 -- ---- settings
 
 -- characters 20 to 7E have top bit 0
+clear-more : (b : ℕ) (bs : List ℕ) → outside b ≡ false → topBitsClear bs ≡ true → topBitsClear (b ∷ bs) ≡ true
+unfolding outside topBitsClear
+clear-more b bs o h =
+    let q = or-false (ltb b 0x20) (ltb 0x7e b) o in
+    rw (lt-ltb b 0x80 (omega (arith, ltb-false 0x7e b (q .1)))) h
+
 clear-of : (cs : List ℕ) → traceRefused cs ≡ false → topBitsClear cs ≡ true
-unfolding traceRefused outside topBitsClear
-clear-of [] h = refl
-clear-of (b ∷ bs) h =
-    let p = or-false (outside b) (traceRefused bs) h in
-    let q = or-false (ltb b 0x20) (ltb 0x7e b) (p .0) in
-    rw (lt-ltb b 0x80 (omega (arith, ltb-false 0x7e b (q .1)))) (clear-of bs (p .1))
+unfolding topBitsClear
+clear-of cs h = by-characters (λ (l : List ℕ). topBitsClear l ≡ true) refl clear-more cs h
 
 -- settings that no number refuses, and a label that fits them
 pub setting : (sent : ℕ) (e : Settings) → fits sent (e .label) ≡ true → labelRefused (e .label) ≡ false → traceRefused (e .trace) ≡ false → length (e .trace) ≡ 15

@@ -4,22 +4,24 @@ use Prim.Native.Nat.{_*_, _-_, _≤_}
 use native.Mathlib.Omega.{arith}
 use lib.ListN.{length}
 use borrow.Author.Needs.{needs}
-use Rattle.listing.specs.Listing.{linesFrom, Within}
+use Rattle.records.proofs.Places.{record-within}
+use Rattle.listing.specs.Listing.{linesFrom}
+use Rattle.listing.specs.Inner.{Within}
 use Rattle.listing.proofs.Rows.{lines-none, lines-turn, lines-end}
 use Rattle.listing.proofs.lines.Statement.{statement}
 use Rattle.listing.proofs.lines.Tie as tie
 
 abbrev Inv-loop : tie.InvT-loop
-Inv-loop out₀ at s n e₀ k₀ out e k = (k ≤ n) × ((length out ≡ length out₀) × Within (31 * k) at (linesFrom s 0 k) out₀ out e)
+Inv-loop kind out₀ at s n e₀ k₀ out e k = (k ≤ n) × ((length out ≡ length out₀) × Within (31 * k) at (linesFrom kind s 0 k) out₀ out e)
 
 abbrev μ-loop : tie.MeasureT-loop
-μ-loop out₀ at s n e₀ k₀ out e k = n - k
+μ-loop kind out₀ at s n e₀ k₀ out e k = n - k
 
 loop-holds : tie.Need-loop-holds Inv-loop μ-loop
 loop-holds c = (omega arith, (refl, search lines-none))
 
 record-at-requires : tie.Need-record-at-requires Inv-loop μ-loop
-record-at-requires c κs = omega arith
+record-at-requires c κs = search record-within
 
 line-requires : tie.Need-line-requires Inv-loop μ-loop
 line-requires c κs = search needs

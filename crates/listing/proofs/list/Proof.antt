@@ -1,5 +1,6 @@
 -- `listing::list` meets its contract: the buffer has room for a good catalogue of 512 records, and for a refusal. Assumes nothing.
 use borrow.Author.Needs.{needs}
+use Rattle.records.proofs.Places.{old-serves}
 use Rattle.listing.proofs.Answers.{good-records, good-room, good-listed, refused-listed}
 use Rattle.listing.proofs.list.Statement.{statement}
 use Rattle.listing.proofs.list.Tie as tie
@@ -10,8 +11,11 @@ check-requires c κs = search needs
 enum-known-n : tie.Need-enum-known-n
 enum-known-n c = search needs
 
+old-kind-requires : tie.Need-old-kind-requires
+old-kind-requires c κs = search needs
+
 good-requires : tie.Need-good-requires
-good-requires c κs = (search good-records, search good-room)
+good-requires c κs = (search old-serves, (search good-records, search good-room))
 
 enum-known-x : tie.Need-enum-known-x
 enum-known-x c = search needs
@@ -31,6 +35,7 @@ list-spec =
     (tie.spec
     check-requires
     enum-known-n
+    old-kind-requires
     good-requires
     enum-known-x
     refusal-line-requires

@@ -1,5 +1,5 @@
 -- `probe::pack_found` meets its contract: each answer is packed as its definition says. Assumes nothing.
-use Rattle.probe.specs.Probe.{packedFound}
+use Rattle.probe.proofs.Packed.{found-entry, found-not}
 use borrow.Author.Needs.{needs}
 use Rattle.probe.proofs.pack_found.Statement.{statement}
 use Rattle.probe.proofs.pack_found.Tie as tie
@@ -26,12 +26,10 @@ pack-refusal-requires : tie.Need-pack-refusal-requires
 pack-refusal-requires c κs = search needs
 
 returns : tie.Need-returns
-unfolding packedFound
-returns c = simp (c .before .f .given .1)
+returns c = search found-entry
 
 returns-2 : tie.Need-returns-2
-unfolding packedFound
-returns-2 c = simp (c .pack-refusal .ensures, c .before .before .f2 .given .1)
+returns-2 c = search found-not
 
 pub pack-found-spec : {M : Type 1} → statement M
 pack-found-spec =

@@ -1,6 +1,6 @@
 -- `probe::pack_refusal` meets its contract: for each refusal, its number and its places. Assumes nothing.
-use Rattle.records.specs.Refusals.{cataloguePlaces}
-use Rattle.probe.specs.Probe.{packed}
+use Rattle.records.proofs.Numbers.{places}
+use Rattle.probe.proofs.Packed.{packed-none, packed-one, packed-two}
 use borrow.Author.Needs.{needs}
 use Rattle.probe.proofs.pack_refusal.Statement.{statement}
 use Rattle.probe.proofs.pack_refusal.Tie as tie
@@ -57,36 +57,28 @@ pack-requires-8 : tie.Need-pack-requires-8
 pack-requires-8 c κs = search needs
 
 returns : tie.Need-returns
-unfolding packed cataloguePlaces
-returns c = simp (c .pack .ensures, c .before .before .before .number .ensures, c .before .enum-told .given .1)
+returns c = search (packed-none, places)
 
 returns-2 : tie.Need-returns-2
-unfolding packed cataloguePlaces
-returns-2 c = simp (c .pack2 .ensures, c .before .before .before .before .number .ensures, c .before .before .x .given .1)
+returns-2 c = search (packed-one, places)
 
 returns-3 : tie.Need-returns-3
-unfolding packed cataloguePlaces
-returns-3 c = simp (c .pack3 .ensures, c .before .before .before .before .number .ensures, c .before .before .x2 .given .1)
+returns-3 c = search (packed-one, places)
 
 returns-4 : tie.Need-returns-4
-unfolding packed cataloguePlaces
-returns-4 c = simp (c .pack4 .ensures, c .before .before .before .before .number .ensures, c .before .before .x3 .given .1)
+returns-4 c = search (packed-one, places)
 
 returns-5 : tie.Need-returns-5
-unfolding packed cataloguePlaces
-returns-5 c = simp (c .pack5 .ensures, c .before .before .before .before .number .ensures, c .before .before .x4 .given .1)
+returns-5 c = search (packed-one, places)
 
 returns-6 : tie.Need-returns-6
-unfolding packed cataloguePlaces
-returns-6 c = simp (c .pack6 .ensures, c .before .before .before .before .number .ensures, c .before .before .x5 .given .1)
+returns-6 c = search (packed-one, places)
 
 returns-7 : tie.Need-returns-7
-unfolding packed cataloguePlaces
-returns-7 c = simp (c .pack7 .ensures, c .before .before .before .before .number .ensures, c .before .before .x6 .given .1)
+returns-7 c = search (packed-two, places)
 
 returns-8 : tie.Need-returns-8
-unfolding packed cataloguePlaces
-returns-8 c = simp (c .pack8 .ensures, c .before .before .before .number .ensures, c .before .enum-told2 .given .1)
+returns-8 c = search (packed-none, places)
 
 pub pack-refusal-spec : {M : Type 1} → statement M
 pack-refusal-spec =

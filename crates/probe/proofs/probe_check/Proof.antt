@@ -1,5 +1,5 @@
 -- `probe::probe_check` meets its contract: each answer is packed as its definition says. Assumes nothing.
-use Rattle.probe.specs.Probe.{packedCheck}
+use Rattle.probe.proofs.Packed.{check-good, check-refused}
 use borrow.Author.Needs.{needs}
 use Rattle.probe.proofs.probe_check.Statement.{statement}
 use Rattle.probe.proofs.probe_check.Tie as tie
@@ -20,12 +20,10 @@ pack-refusal-requires : tie.Need-pack-refusal-requires
 pack-refusal-requires c κs = search needs
 
 returns : tie.Need-returns
-unfolding packedCheck
-returns c = simp (c .wide .ensures, ← (c .before .before .before .before .check .ensures .answer-is), c .before .before .n .given .1)
+returns c = search check-good
 
 returns-2 : tie.Need-returns-2
-unfolding packedCheck
-returns-2 c = simp (c .pack-refusal .ensures, ← (c .before .before .before .before .check .ensures .answer-is), c .before .before .x .given .1)
+returns-2 c = search check-refused
 
 pub probe-check-spec : {M : Type 1} → statement M
 probe-check-spec =

@@ -1,5 +1,6 @@
 -- `probe::probe_copy` meets its contract: where the lengths differ nothing is written, and no is answered. Assumes nothing.
-use borrow.Author.Tests.{ne-eqb, eq-eqb}
+use borrow.Author.Tests.{ne-eqb}
+use Rattle.probe.proofs.Packed.{copied-yes, copied-all}
 use borrow.Author.Needs.{needs}
 use Rattle.probe.proofs.probe_copy.Statement.{statement}
 use Rattle.probe.proofs.probe_copy.Tie as tie
@@ -14,7 +15,7 @@ same-length : tie.Need-same-length
 same-length c = search needs
 
 returns-2 : tie.Need-returns-2
-returns-2 c = let e = c .before .before .before .before .if1 .left in (simp (eq-eqb _ _ e), simp (eq-eqb _ _ e) (c .before .before .copy .ensures))
+returns-2 c = (search copied-yes, search copied-all)
 
 pub probe-copy-spec : {M : Type 1} → statement M
 probe-copy-spec = tie.close (tie.spec returns copy-requires same-length returns-2)

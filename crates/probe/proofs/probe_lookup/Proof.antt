@@ -1,5 +1,6 @@
 -- `probe::probe_lookup` meets its contract: the answer is packed, and the characters are those that lookup found. Assumes nothing.
 use borrow.Author.Needs.{needs}
+use Rattle.probe.proofs.Packed.{lookup-packed, lookup-characters}
 use Rattle.probe.proofs.probe_lookup.Statement.{statement}
 use Rattle.probe.proofs.probe_lookup.Tie as tie
 
@@ -10,7 +11,7 @@ pack-found-requires : tie.Need-pack-found-requires
 pack-found-requires c κs = search needs
 
 returns : tie.Need-returns
-returns c = (simp (c .pack-found .ensures, c .before .before .lookup .ensures .answer-is), simp (c .before .before .lookup .ensures .answer-is))
+returns c = (search lookup-packed, search lookup-characters)
 
 pub probe-lookup-spec : {M : Type 1} → statement M
 probe-lookup-spec = tie.close (tie.spec lookup-requires pack-found-requires returns)

@@ -1,0 +1,73 @@
+-- The answers packed, by what the callees answered. Assumes nothing.
+use mathlib.Core.Path.{_≡_, ap, _∙_}
+use mathlib.Core.Bool.{true, cond}
+use mathlib.Core.List.{List, [], _∷_}
+use Prim.Native.Nat.{ℕ, _+_, _*_, _%_}
+use borrow.Author.Tests.{eq-eqb}
+use lib.Dec.{eqb}
+use lib.ListN.{length}
+use Rattle.records.specs.Refusals.{catalogueNumber, cataloguePlaces}
+use Rattle.catalogue.specs.Catalogue.{checkOf, Checks, lookupOf, LooksUp}
+use Rattle.probe.specs.Probe.{packed, packedCheck, packedFound}
+use Rattle.records.specs.declared.Kind.{Kind}
+use Rattle.records.specs.declared.Refusal.{Refusal}
+use Rattle.catalogue.specs.declared.Checked.{Checked}
+use Rattle.catalogue.specs.declared.Checked.the-variants.{Good, Refused}
+use Rattle.catalogue.specs.declared.Found.{Found}
+use Rattle.catalogue.specs.declared.Found.the-variants.{Entry, Not}
+use Rattle.catalogue.specs.declared.Looked.{Looked}
+
+-- ---- a refusal, of number n, by the places that it names: r is what was packed
+
+module _ (x : Refusal) (n r : ℕ) (is-n : n ≡ catalogueNumber x) where
+  pub packed-none : cataloguePlaces x ≡ [] → r ≡ n * 4294967296 + 0 % 65536 * 65536 + 0 % 65536 → r ≡ packed x
+  unfolding packed
+  packed-none e f = f ∙ rw (is-n, e)
+
+  pub packed-one : (p : ℕ) → cataloguePlaces x ≡ p ∷ [] → r ≡ n * 4294967296 + p % 65536 * 65536 + 0 % 65536 → r ≡ packed x
+  unfolding packed
+  packed-one p e f = f ∙ rw (is-n, e)
+
+  pub packed-two : (p q : ℕ) → cataloguePlaces x ≡ p ∷ q ∷ [] → r ≡ n * 4294967296 + p % 65536 * 65536 + q % 65536 → r ≡ packed x
+  unfolding packed
+  packed-two p q e f = f ∙ rw (is-n, e)
+
+-- ---- the check, which answered c
+
+module _ (kind : Kind) (s : List ℕ) (c : Checked) (is-c : Checks kind s c) (r : ℕ) where
+  pub check-good : (n : ℕ) → c ≡ Good n → r ≡ n → r ≡ packedCheck (checkOf kind s)
+  unfolding packedCheck
+  check-good n e f = rw (← (is-c .answer-is), e) f
+
+  pub check-refused : (x : Refusal) → c ≡ Refused x → r ≡ packed x → r ≡ packedCheck (checkOf kind s)
+  unfolding packedCheck
+  check-refused x e f = rw (← (is-c .answer-is), e) f
+
+-- ---- what was found
+
+module _ (f : Found) where
+  pub found-entry : (label flags : ℕ) → f ≡ Entry label flags → label * 256 + flags ≡ packedFound f
+  unfolding packedFound
+  found-entry label flags e = rw e
+
+  pub found-not : (x : Refusal) (r : ℕ) → f ≡ Not x → r ≡ packed x → r ≡ packedFound f
+  unfolding packedFound
+  found-not x r e g = rw e g
+
+-- ---- the lookup, which answered l
+
+module _ (kind : Kind) (s : List ℕ) (number : ℕ) (l : Looked) (is-l : LooksUp kind s number l) where
+  pub lookup-packed : (r : ℕ) → r ≡ packedFound (l .found) → r ≡ packedFound (lookupOf kind s number .found)
+  lookup-packed r e = e ∙ ap (λ (x : Looked). packedFound (x .found)) (is-l .answer-is)
+
+  pub lookup-characters : l .trace ≡ lookupOf kind s number .trace
+  lookup-characters = ap (λ (x : Looked). x .trace) (is-l .answer-is)
+
+-- ---- a copy, of equal lengths
+
+module _ (src dst : List ℕ) (h : length src ≡ length dst) where
+  pub copied-yes : true ≡ eqb (length src) (length dst)
+  copied-yes = rw (eq-eqb (length src) (length dst) h)
+
+  pub copied-all : (after : List ℕ) → after ≡ src → after ≡ cond (eqb (length src) (length dst)) src dst
+  copied-all after e = rw (eq-eqb (length src) (length dst) h) e
