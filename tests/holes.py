@@ -36,7 +36,7 @@ def allowed(file, new):
 
 
 PEEK = "use Prim.Native.Nat.{ℕ}\npub peek : ℕ\npeek = 0\n"
-HELD, DONE = "now (e .1 .1 .1 .1 .1 .0)", "now (e .1 .1 .1 .1 .1 .1 .0)"
+HELD, DONE = "now (e .1 .1 .1 .0)", "now (e .1 .1 .1 .1 .0)"
 
 TRIALS = [
     # reads nothing; a part of the answer; the answer left out

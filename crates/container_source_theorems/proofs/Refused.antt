@@ -1,7 +1,7 @@
 -- When a call of the container source or of the payload call is refused, and what it leaves: a refused call leaves everything as it was, and a call is
 -- done exactly where no row of the table applies. Assumes nothing.
 use mathlib.Core.Path.{_≡_, refl, sym, ap, _∙_}
-use mathlib.Core.Bool.{Bool, false}
+use mathlib.Core.Bool.{Bool}
 use mathlib.Core.List.{List}
 use Prim.Native.Nat.{ℕ, _<_}
 use native.Mathlib.Omega.{arith}

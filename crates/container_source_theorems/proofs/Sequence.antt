@@ -16,7 +16,8 @@ use Rattle.container.proofs.Places.{getD-container, overhead-container}
 use Rattle.container_source.specs.Overhead.{j1Of, g1Of, overheadOf}
 use Rattle.container_source.specs.Source.{freshContainerSource, containerSent, containerSourceAfter, SentOutcome}
 use Rattle.container_source.specs.declared.State.{State}
-use Rattle.container_source_theorems.specs.Run.{ContainerSourceCall, containerSourceCalled, stateAt, outcomeAt, containerAt, Unrefused, j1s, b3, Carries}
+use Rattle.container_source_theorems.specs.Run.{ContainerSourceCall, containerSourceCalled, stateAt, outcomeAt, containerAt}
+use Rattle.container_source_theorems.specs.Bytes.{Unrefused, j1s, b3, Carries}
 use Rattle.container_source_theorems.proofs.Refused.{some-columns, source-done, source-kept, source-sendable}
 
 -- ---- one call that is not refused

@@ -14,7 +14,8 @@ use Rattle.shape.specs.Shape.{unitLength}
 use Rattle.shape.specs.declared.Shape.{Shape}
 use Rattle.cut.specs.declared.Cut.{Cut}
 use Rattle.cut.proofs.Within.{rest-count, rest-low}
-use Rattle.cut.specs.Cut.{Line, Cuts, cutOf, completedOf, doneOf, heldOf}
+use Rattle.cut.specs.Cut.{cutOf, completedOf, doneOf, heldOf}
+use Rattle.cut.specs.Inner.{Line, Cuts}
 
 -- no container was begun
 pub untouched : (s : Shape) (kept from : ℕ) (unit held done : List ℕ) → kept ≡ 0 → done ≡ doneOf s (cutOf s kept from) unit held done

@@ -11,7 +11,8 @@ use Rattle.shape.specs.declared.Shape.{Shape}
 use Rattle.shape.specs.declared.Adjustment.{Adjustment}
 use Rattle.shape.proofs.Offsets.{place-low, held-none, held-some, held-low}
 use Rattle.shape.proofs.Balance.{Balanced, balance}
-use Rattle.cut.specs.Cut.{Line, nextOf, insideOf, beginOf, cutOf, endedCount}
+use Rattle.cut.specs.Cut.{nextOf, insideOf, beginOf, cutOf, endedCount}
+use Rattle.cut.specs.Inner.{Line}
 use Rattle.cut.proofs.Lines.{line-goes, line-restarts}
 
 -- what is held, and how many end, as a container begins at `next` and so many ended before

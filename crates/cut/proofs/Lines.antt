@@ -5,7 +5,7 @@ use Rattle.shape.specs.Shape.{Fit, placeOf, heldCount, runFrom}
 use Rattle.shape.specs.declared.Shape.{Shape}
 use Rattle.shape.specs.declared.Adjustment.{Adjustment}
 use Rattle.shape.proofs.Offsets.{place-low, held-none, held-some, held-low, run-begins}
-use Rattle.cut.specs.Cut.{Line}
+use Rattle.cut.specs.Inner.{Line}
 
 -- where bytes are held, they are a step or more
 pub held-step : (s : Shape) (v : ℕ) → Fit s → v ≤ s .top → 0 < heldCount s v → s .step ≤ heldCount s v

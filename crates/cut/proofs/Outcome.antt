@@ -9,7 +9,8 @@ use lib.ListN.{length, length-append, length-take, length-drop}
 use borrow.Author.Tests.{ltb-true}
 use Rattle.laws.proofs.Tests.{by-test}
 use Rattle.shape.specs.declared.Shape.{Shape}
-use Rattle.cut.specs.Cut.{Line, Sizes, cutOf, completedOf, insidePart, oneIf, endedOf, endedCount, doneOf, heldOf}
+use Rattle.cut.specs.Cut.{cutOf, completedOf, insidePart, oneIf, endedOf, endedCount, doneOf, heldOf}
+use Rattle.cut.specs.Inner.{Line, Sizes}
 use Rattle.cut.specs.declared.Cut.{Cut}
 use Rattle.cut.proofs.Within.{rest-count, rest-low}
 

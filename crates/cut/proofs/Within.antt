@@ -9,7 +9,8 @@ use Rattle.laws.proofs.Tests.{by-test}
 use Rattle.shape.specs.Shape.{Fit, unitLength}
 use Rattle.shape.specs.declared.Shape.{Shape}
 use Rattle.cut.specs.declared.Cut.{Cut}
-use Rattle.cut.specs.Cut.{Line, nextOf, insideOf, beginOf, cutOf}
+use Rattle.cut.specs.Cut.{nextOf, insideOf, beginOf, cutOf}
+use Rattle.cut.specs.Inner.{Line}
 
 -- a place in the unit, and not before another
 pub record Between (s : Shape) (low place : ℕ) : Type 0 where

@@ -3,13 +3,12 @@
 -- what is left over is held. How the word was taken comes to two numbers:
 --   kept, the held bytes that the unit goes on with: 0 where none are held, or where they were dropped;
 --   from, the place where its run begins, counted from H1.
-use mathlib.Core.Path.{_≡_}
 use mathlib.Core.Bool.{Bool, cond}
 use mathlib.Core.List.{List, [], _∷_, _++_}
-use Prim.Native.Nat.{ℕ, _+_, _-_, _*_, _≤_, _<_}
-use lib.ListN.{length, take, drop}
+use Prim.Native.Nat.{ℕ, _+_, _-_, _*_}
+use lib.ListN.{take, drop}
 use lib.Dec.{ltb, leb}
-use Rattle.shape.specs.Shape.{Fit, unitLength}
+use Rattle.shape.specs.Shape.{unitLength}
 use Rattle.shape.specs.declared.Shape.{Shape}
 use Rattle.cut.specs.declared.Cut.{Cut}
 
@@ -27,8 +26,9 @@ insideOf s next = leb next (3 * s .step)
 unfoldable pub beginOf : Shape → ℕ → ℕ
 beginOf s next = cond (insideOf s next) (next + s .size) next
 
-abbrev pub cutAt : Shape → ℕ → ℕ → ℕ → Cut
-cutAt s kept from next =
+unfoldable pub cutOf : Shape → ℕ → ℕ → Cut
+cutOf s kept from =
+    let next = nextOf s kept from in
     record {
       kept = kept;
       from = from;
@@ -38,9 +38,6 @@ cutAt s kept from next =
       begin = beginOf s next;
       rest = unitLength s - beginOf s next;
     }
-
-unfoldable pub cutOf : Shape → ℕ → ℕ → Cut
-cutOf s kept from = cutAt s kept from (nextOf s kept from)
 
 -- ---- the containers that end
 
@@ -72,25 +69,3 @@ doneOf s c unit held done = cond (c .ends) (completedOf s c unit held) done
 -- "what begins and does not end goes to the held buffer from its first byte"
 unfoldable pub heldOf : Cut → List ℕ → List ℕ → List ℕ
 heldOf c unit held = drop (c .begin) unit ++ drop (c .rest) held
-
--- ---- what may be asked, and what is promised
-
--- a line of bytes: the run begins in the unit and not before H3, and a container begun earlier ends in the unit
-pub record Line (s : Shape) (kept from : ℕ) : Type 0 where
-  pub fit : Fit s
-  pub behind : 2 * s .step ≤ from
-  pub within : from ≤ unitLength s
-  pub kept-low : kept ≤ s .size
-  pub ends-within : 0 < kept → from + (s .size - kept) ≤ unitLength s
-
--- the lengths of the unit and of both buffers
-pub record Sizes (s : Shape) (unit held done : List ℕ) : Type 0 where
-  pub unit-is : length unit ≡ unitLength s
-  pub held-is : length held ≡ s .size
-  pub done-is : length done ≡ s .size
-
--- what one unit comes to: its cut, and both buffers after it
-pub record Cuts (s : Shape) (kept from : ℕ) (unit held done : List ℕ) (r : Cut) (held′ done′ : List ℕ) : Type 0 where
-  pub cut-is : r ≡ cutOf s kept from
-  pub held-is : held′ ≡ heldOf (cutOf s kept from) unit held
-  pub done-is : done′ ≡ doneOf s (cutOf s kept from) unit held done

@@ -5,7 +5,8 @@ ghost use mathlib.Core.List.{_++_};
 ghost use Prim.Native.Nat.{_+_, _≤_};
 ghost use lib.ListN.{length, drop};
 ghost use Rattle.shape.specs.Shape.{Fit, unitLength};
-ghost use Rattle.cut.specs.Cut.{Line, Sizes, Cuts, nextOf, beginOf, cutOf, doneOf};
+ghost use Rattle.cut.specs.Cut.{nextOf, beginOf, cutOf, doneOf};
+ghost use Rattle.cut.specs.Inner.{Line, Sizes, Cuts};
 use shape::Shape;
 
 // One unit, cut. Places are counted from H1.

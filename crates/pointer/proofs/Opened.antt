@@ -2,9 +2,9 @@
 use Prim.{Unit, tt}
 use Rattle.pointer_rules.proofs.Opened as rules
 use Rattle.pointer_state.proofs.Opened as state
-use Rattle.pointer.specs.Machine.{freshPointer, rowsAfter, alarmWord, renewed, newData, invalid, stateAfter, waitAfter, takenIn, pointerAfter, pointerStep, pointerInRange}
+use Rattle.pointer.specs.Machine.{freshPointer, rowsAfter, alarmWord, renewed, newData, invalid, stateAfter, waitAfter, takenIn, pointerStep, pointerInRange}
 
 unfoldable pub opened : Unit {0}
 unfolding
-    state.opened rules.opened freshPointer rowsAfter alarmWord renewed newData invalid stateAfter waitAfter takenIn pointerAfter pointerStep pointerInRange
+    state.opened rules.opened freshPointer rowsAfter alarmWord renewed newData invalid stateAfter waitAfter takenIn pointerStep pointerInRange
 opened = tt

@@ -21,7 +21,7 @@ use Rattle.pointer_rules.specs.declared.Taken.the-variants.{AlarmWord, NewData,
 use Rattle.pointer_rules.specs.declared.Run.{Run}
 use Rattle.pointer_rules.proofs.Names.{Moved, Names, good-low, taken-names}
 use Rattle.pointer_state.specs.State.{isNormal, offsetOf, placed}
-use Rattle.pointer.specs.Machine.{freshPointer, rowsAfter, alarmWord, renewed, newData, invalid, stateAfter, waitAfter, takenIn, pointerAfter, pointerStep, rowsIn, runIn, pointerInRange}
+use Rattle.pointer.specs.Machine.{freshPointer, rowsAfter, alarmWord, renewed, newData, invalid, stateAfter, waitAfter, takenIn, pointerStep, rowsIn, runIn, pointerInRange}
 use Rattle.pointer.specs.declared.Rows.{Rows}
 use Rattle.pointer.specs.declared.Pointer.{Pointer}
 
@@ -105,7 +105,7 @@ fresh-in-range top = simp (le-leb 0 top (omega arith))
 
 -- A pointer's numbers stay in their ranges.
 pub step-in-range : (top : ℕ) (s : Pointer) (w : ℕ) → pointerInRange top s ≡ true → pointerInRange top (pointerStep s top w .pointer) ≡ true
-unfolding pointerInRange pointerStep pointerAfter takenIn
+unfolding pointerInRange pointerStep takenIn
 step-in-range top s w h =
     let t = takenIn s top w in
     let rows = rowsAfter (s .rows) t in
@@ -145,7 +145,7 @@ state-goes top state rows Invalid n r =
 
 -- A unit that ends normal and did not restart began normal, and its offset moved by the adjustment, of any pointer.
 pub going : (top : ℕ) (s : Pointer) (w : ℕ) → restarts (pointerStep s top w .taken) ≡ false → isNormal (pointerStep s top w .pointer .state) ≡ true → Goes top (adjustmentOf (pointerStep s top w .taken)) (s .state) (pointerStep s top w .pointer .state)
-unfolding pointerStep pointerAfter takenIn
+unfolding pointerStep takenIn
 going top s w =
     let t = takenIn s top w in
     state-goes top (s .state) (rowsAfter (s .rows) t) t (taken-names top (s .state) (s .run) (s .wait) w)

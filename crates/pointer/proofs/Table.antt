@@ -17,7 +17,8 @@ use Rattle.pointer_rules.specs.declared.Taken.{Taken}
 use Rattle.shape.specs.declared.Adjustment.the-variants.{Increment, Decrement}
 use Rattle.pointer_rules.specs.declared.Taken.the-variants.{NewData, Resync, Adjusted, Plain, Invalid}
 use Rattle.pointer_state.specs.State.{isNormal}
-use Rattle.pointer.specs.Machine.{noRows, freshPointer, rowsAfter, alarmWord, renewed, newData, invalid, stateAfter, waitAfter, takenIn, pointerAfter, pointerStep, afterWords, takens}
+use Rattle.pointer.specs.Machine.{noRows, freshPointer, rowsAfter, alarmWord, renewed, newData, invalid, stateAfter, waitAfter, takenIn, pointerStep}
+use Rattle.pointer.specs.Words.{afterWords, takens}
 use Rattle.pointer.specs.declared.Pointer.{Pointer}
 
 -- ---- the table
@@ -59,7 +60,7 @@ pub record Outcome : Type 0 where
 
 -- what the machine makes of a row's offset and word, and what the row says
 unfoldable pub found : ℕ → Row → Outcome
-unfolding pointerStep takenIn pointerAfter runAfter runOn elsewhere upOf downOf offsetAfter adjustment inNormal inAlarmOrLost byState takenAs rowsAfter alarmWord renewed newData invalid stateAfter isNormal waitAfter kindOf ssOf valueOf ofKind good inverted ones onesIn
+unfolding pointerStep takenIn runAfter runOn elsewhere upOf downOf offsetAfter adjustment inNormal inAlarmOrLost byState takenAs rowsAfter alarmWord renewed newData invalid stateAfter isNormal waitAfter kindOf ssOf valueOf ofKind good inverted ones onesIn
 found top r = let a = pointerStep (before (Normal (r .offset))) top (r .word) in record { taken = a .taken; state = a .pointer .state }
 
 pub said : Row → Outcome

@@ -1,8 +1,7 @@
 -- The pointer from word to word: 01, "Reading one pointer word". How a word is taken is in the crate `pointer_rules`; here is what it leads to.
 -- `top` is the largest pointer value: 782 in AU-4, 764 in TU-3.
 use Prim.Native.Nat.{ℕ}
-use mathlib.Core.Bool.{Bool, true, false, cond, _&&_}
-use mathlib.Core.List.{List, [], _∷_}
+use mathlib.Core.Bool.{Bool, cond, _&&_}
 use lib.Dec.{leb}
 use Rattle.counts.specs.Counts.{more}
 use Rattle.pointer_rules.specs.Rules.{noRun, runAfter, takenAs}
@@ -75,34 +74,14 @@ waitAfter wait state Invalid = more wait 3
 unfoldable pub takenIn : Pointer → ℕ → ℕ → Taken
 takenIn s top w = takenAs (s .state) (runAfter (s .run) top w .count) (s .wait) top w
 
--- s after a word taken as t; `run` is the run with this word in it
-unfoldable pub pointerAfter : Pointer → Run → Taken → Pointer
-pointerAfter s run t =
-    let rows = rowsAfter (s .rows) t in
-    let state = stateAfter (s .state) rows t in
-    record { state = state; rows = rows; run = run; wait = waitAfter (s .wait) state t }
-
 -- THE STEP: how w is taken in s, and the pointer after it
 unfoldable pub pointerStep : Pointer → ℕ → ℕ → AfterWord
 pointerStep s top w =
+    let run = runAfter (s .run) top w in
     let t = takenIn s top w in
-    record { taken = t; pointer = pointerAfter s (runAfter (s .run) top w) t }
-
--- ---- word after word
-
--- the pointer after the word w
-abbrev pub afterWord : Pointer → ℕ → ℕ → Pointer
-afterWord s top w = pointerStep s top w .pointer
-
--- the pointer after the words ws
-unfoldable pub afterWords : Pointer → ℕ → List ℕ → Pointer
-afterWords s top [] = s
-afterWords s top (w ∷ ws) = afterWords (afterWord s top w) top ws
-
--- how each of the words ws is taken
-unfoldable pub takens : Pointer → ℕ → List ℕ → List Taken
-takens s top [] = []
-takens s top (w ∷ ws) = pointerStep s top w .taken ∷ takens (afterWord s top w) top ws
+    let rows = rowsAfter (s .rows) t in
+    let state = stateAfter (s .state) rows t in
+    record { taken = t; pointer = record { state = state; rows = rows; run = run; wait = waitAfter (s .wait) state t } }
 
 -- ---- ranges: "Counts stop at the end of their range: alarm words, alike words, .. wait 3; invalid and enabled words 8"
 

@@ -6,8 +6,8 @@ ghost use mathlib.Core.Bool.{cond};
 ghost use Rattle.pointer_state.specs.State.{isNormal};
 ghost use Rattle.pointer.specs.Machine.{noRows, freshPointer, rowsAfter, alarmWord, renewed, newData, invalid, stateAfter, waitAfter, pointerStep, pointerInRange};
 use pointer_rules::Run;
-use pointer_state::State;
 use pointer_rules::Taken;
+use pointer_state::State;
 
 // How many of the last words, in a row, were taken as alarm words (as far as 3), as new data and as invalid (as far as 8).
 #[repr(C)]
@@ -135,7 +135,11 @@ fn state_after(state: State, rows: Rows, t: Taken) -> State
 fn wait_after_new_data(state: State, more: u8) -> u8
     ensures { λ r. ⌜ r ≡ cond (isNormal state) 0 more ⌝ }
 {
-    if pointer_state::normal(state) { 0 } else { more }
+    if pointer_state::normal(state) {
+        0
+    } else {
+        more
+    }
 }
 
 // The wait after a word taken as t that led to the state given.

@@ -11,7 +11,6 @@ use Rattle.laws.proofs.Tests.{by-test, and-left, and-right}
 use Rattle.word.specs.Word.{normal, enabled, valueOf, ofKind, good, bitsI, bitsD, inverted}
 use Rattle.shape.specs.Shape.{offsetAfter}
 use Rattle.shape.specs.declared.Adjustment.{Adjustment}
-use Rattle.shape.specs.declared.Adjustment.the-variants as offset
 use Rattle.pointer_rules.specs.Rules.{runAfter, elsewhere, adjustment, inNormal, inAlarmOrLost, byState, takenAs}
 use Rattle.pointer_state.specs.declared.State.{State}
 use Rattle.pointer_state.specs.declared.State.the-variants.{Normal, Alarm, Lost}

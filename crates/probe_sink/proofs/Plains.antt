@@ -1,6 +1,5 @@
 -- What the probe of the sink has to show, of what the calls have shown. Assumes nothing.
 use mathlib.Core.Path.{_≡_, refl, ap, _∙_}
-use mathlib.Core.Bool.{Bool}
 use mathlib.Core.List.{List}
 use Prim.Native.Nat.{ℕ}
 use Rattle.refusals.specs.Refusals.{answerNumber}
@@ -8,7 +7,7 @@ use Rattle.shape.specs.Shape.{au4}
 use Rattle.pointer_state.specs.declared.State as reading
 use Rattle.pointer_state.specs.State.{offsetOf}
 use Rattle.settings.specs.declared.Settings.{Settings}
-use Rattle.sink.specs.Sink.{freshSink, sink, Receives}
+use Rattle.sink.specs.Sink.{freshSink, Receives}
 use Rattle.sink.specs.declared.State.{State}
 use Rattle.sink.specs.declared.Received.{Received}
 use Rattle.probe_sink.specs.Probe.{pointerState, stateKind, stateOf, plainOf, shownOf, probedOf, Shows}

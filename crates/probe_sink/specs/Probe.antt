@@ -10,7 +10,7 @@ use Rattle.refusals.specs.Refusals.{answerNumber}
 use Rattle.shape.specs.Shape.{au4}
 use Rattle.pointer_state.specs.declared.State as pointer-state
 use Rattle.pointer_state.specs.declared.State.the-variants.{Normal, Alarm, Lost}
-use Rattle.pointer_state.specs.State.{isNormal, isAlarm, offsetOf}
+use Rattle.pointer_state.specs.State.{offsetOf}
 use Rattle.settings.specs.declared.Settings.{Settings}
 use Rattle.receiving.specs.declared.Ended.{Ended}
 use Rattle.view.specs.View.{containerHanded}

@@ -1,6 +1,6 @@
 -- Laws of what a unit leaves: what its parts ask for, and that they come to the definition. Assumes nothing.
 use mathlib.Core.Path.{_≡_, refl, sym, ap, _∙_}
-use mathlib.Core.Bool.{Bool, true, false, cond, false≢true}
+use mathlib.Core.Bool.{Bool, true, false, cond}
 use mathlib.Core.List.{List}
 use Prim.Native.Nat.{ℕ, zero, suc, _+_, _-_, _*_, _<_, _≤_}
 use native.Mathlib.Omega.{arith}
@@ -13,7 +13,8 @@ use Rattle.shape.specs.declared.Shape.{Shape}
 use Rattle.shape.specs.declared.Adjustment.{Adjustment}
 use Rattle.pointer_rules.specs.Rules.{restarts, adjustmentOf}
 use Rattle.pointer_rules.specs.declared.Taken.{Taken}
-use Rattle.cut.specs.Cut.{Line, Cuts, cutOf, completedOf, insidePart, endedCount, doneOf, heldOf}
+use Rattle.cut.specs.Cut.{cutOf, completedOf, insidePart, endedCount, doneOf, heldOf}
+use Rattle.cut.specs.Inner.{Line, Cuts}
 use Rattle.cut.specs.declared.Cut.{Cut}
 use Rattle.cut.proofs.Within.{inside-fits}
 use Rattle.monitor.specs.Seeing.{seenIn}
@@ -26,8 +27,9 @@ use Rattle.receiving.specs.declared.Begin.{Begin}
 use Rattle.receiving.specs.declared.Both.{Both}
 use Rattle.receiving.specs.declared.Ended.{Ended}
 use Rattle.receiving.specs.declared.AfterUnit.{AfterUnit}
-use Rattle.receiving.specs.Turns.{seenWhere, takenWhere, turned, takenBoth}
-use Rattle.receiving.specs.Receiving.{monitorIn, fromIn, beginIn, cutIn, notSeen, watched, endedIn, afterBy, bothSeen, receivedNormal, NormalOutcomeIs, Inside, Seeable, Receivable}
+use Rattle.receiving.specs.InnerTurns.{seenWhere, takenWhere, turned, takenBoth}
+use Rattle.receiving.specs.Receiving.{monitorIn, fromIn, beginIn, cutIn, notSeen, watched, endedIn, afterBy, bothSeen, receivedNormal}
+use Rattle.receiving.specs.Inner.{NormalOutcomeIs, Inside, Seeable, Receivable}
 
 -- ---- what is watched
 

@@ -1,2 +1,3 @@
 pub mod Receiving
-pub mod Turns
+pub mod InnerTurns
+pub mod Inner

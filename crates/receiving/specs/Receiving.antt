@@ -1,16 +1,14 @@
 -- What a unit leaves: the containers that ended, watched in order, and the bytes held. 01, "Reading one pointer word" (its last words), "Containers out of a unit"
 -- and "Defects, actions, causes" ("per container, in order").
-use mathlib.Core.Path.{_≡_}
-use Prim.Native.Nat.{ℕ, _+_, _*_, _<_, _≤_}
-use mathlib.Core.Bool.{Bool, true, false, cond}
+use Prim.Native.Nat.{ℕ, _+_, _*_}
+use mathlib.Core.Bool.{Bool, false, cond}
 use mathlib.Core.List.{List}
-use lib.ListN.{length}
-use Rattle.shape.specs.Shape.{Fit, unitLength, placeOf, runFrom}
+use Rattle.shape.specs.Shape.{placeOf, runFrom}
 use Rattle.shape.specs.declared.Shape.{Shape}
 use Rattle.shape.specs.declared.Adjustment.{Adjustment}
 use Rattle.pointer_rules.specs.Rules.{restarts, adjustmentOf}
 use Rattle.pointer_rules.specs.declared.Taken.{Taken}
-use Rattle.cut.specs.Cut.{Line, Sizes, cutOf, completedOf, insidePart, endedCount, doneOf, heldOf}
+use Rattle.cut.specs.Cut.{cutOf, completedOf, insidePart, endedCount, doneOf, heldOf}
 use Rattle.cut.specs.declared.Cut.{Cut}
 use Rattle.monitor.specs.Seeing.{seenIn}
 use Rattle.monitor.specs.Monitoring.{forgot, blankOf, seenOf}
@@ -23,11 +21,7 @@ use Rattle.receiving.specs.declared.AfterUnit.{AfterUnit}
 
 -- ---- a restart
 
--- "New data (even at the same offset) and rule 3 drop the held bytes"
-abbrev pub keptIn : Bool → ℕ → ℕ
-keptIn restart count = cond restart 0 count
-
--- "and forget the last parity"
+-- "New data (even at the same offset) and rule 3 .. forget the last parity"
 abbrev pub monitorIn : Taken → Monitor → Monitor
 monitorIn t m = cond (restarts t) (forgot m) m
 
@@ -35,9 +29,9 @@ monitorIn t m = cond (restarts t) (forgot m) m
 unfoldable pub fromIn : Shape → Bool → Adjustment → ℕ → ℕ
 fromIn s restart a offset = cond restart (3 * s .step + placeOf s offset) (runFrom (s .step) a)
 
--- where a unit that ends normal at the offset goes on, its word taken as t
+-- where a unit that ends normal at the offset goes on, its word taken as t: "New data (even at the same offset) and rule 3 drop the held bytes"
 unfoldable pub beginIn : Shape → Taken → ℕ → ℕ → Begin
-beginIn s t offset count = record { kept = keptIn (restarts t) count; from = fromIn s (restarts t) (adjustmentOf t) offset }
+beginIn s t offset count = record { kept = cond (restarts t) 0 count; from = fromIn s (restarts t) (adjustmentOf t) offset }
 
 -- its cut
 abbrev pub cutIn : Shape → Taken → ℕ → ℕ → Cut
@@ -110,23 +104,3 @@ receivedNormal s t offset count m e unit held done =
       held = heldOf c unit held;
       done = doneOf s c unit held done;
     }
-
--- ---- the promise, and where it can be given
-
-abbrev pub NormalOutcomeIs : Shape → Taken → ℕ → ℕ → Monitor → Settings → List ℕ → List ℕ → List ℕ → AfterUnit → List ℕ → List ℕ → Type 0
-NormalOutcomeIs s t offset count m e unit held done r held′ done′ =
-    _≡_ {A = UnitOutcome} (record { after = r; held = held′; done = done′ }) (receivedNormal s t offset count m e unit held done)
-
-pub record Inside (s : Shape) (c : Cut) (unit : List ℕ) : Type 0 where
-  pub fit : Fit s
-  pub within : c .inside ≡ true → c .next + s .size ≤ length unit
-  pub low : length unit ≡ unitLength s
-
-pub record Seeable (s : Shape) (c : Cut) (unit done : List ℕ) : Type 0 where
-  pub part : Inside s c unit
-  pub done-is : length done ≡ s .size
-
-pub record Receivable (s : Shape) (t : Taken) (offset count : ℕ) (unit held done : List ℕ) : Type 0 where
-  pub low : offset ≤ s .top
-  pub line : Line s (beginIn s t offset count .kept) (beginIn s t offset count .from)
-  pub sizes : Sizes s unit held done

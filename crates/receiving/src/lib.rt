@@ -1,13 +1,14 @@
 // What a unit that ends normal leaves: the containers that ended in it, watched one after the other, and the bytes that are held.
-// The definitions stand in specs/Receiving.antt, the steps of the code between them in specs/Turns.antt. The sink rests on this crate.
+// The definitions stand in specs/Receiving.antt, the steps of the code between them in specs/InnerTurns.antt. The sink rests on this crate.
 ghost use mathlib.Core.Path.{_≡_};
 ghost use mathlib.Core.Bool.{cond};
 ghost use Prim.Native.Nat.{_+_, _*_, _<_, _≤_};
 ghost use lib.ListN.{length};
 ghost use Rattle.shape.specs.Shape.{Fit};
 ghost use Rattle.cut.specs.Cut.{insidePart};
-ghost use Rattle.receiving.specs.Turns.{nothingSeen, seenWhere, takenWhere, turned, takenBoth};
-ghost use Rattle.receiving.specs.Receiving.{Receivable, Inside, Seeable, monitorIn, fromIn, beginIn, notSeen, endedIn, afterBy, silence, bothSeen, NormalOutcomeIs};
+ghost use Rattle.receiving.specs.InnerTurns.{nothingSeen, seenWhere, takenWhere, turned, takenBoth};
+ghost use Rattle.receiving.specs.Receiving.{monitorIn, fromIn, beginIn, notSeen, endedIn, afterBy, silence, bothSeen};
+ghost use Rattle.receiving.specs.Inner.{Receivable, Inside, Seeable, NormalOutcomeIs};
 use cut::Cut;
 use monitor::Monitor;
 use monitor::Overhead;

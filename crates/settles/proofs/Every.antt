@@ -9,11 +9,11 @@ use Rattle.refusals.specs.declared.Answer.the-variants.{Done}
 use Rattle.shape.specs.Shape.{endedBy}
 use Rattle.shape.specs.declared.Shape.{Shape}
 use Rattle.unit_source.specs.Source as unit-source
-use Rattle.unit_source_theorems.specs.Stream as stream
-use Rattle.settles_stream.specs.InOrder.{boxes, watchedAll, violationsAll, violationsTold}
+use Rattle.unit_source_theorems.specs.Sending as stream
+use Rattle.settles_stream.specs.InOrder.{boxes, violationsTold}
+use Rattle.settles_stream.specs.Inner.{watchedAll, violationsAll}
 use Rattle.settles_stream.proofs.Together.{boxes-append}
 use Rattle.unit_end.specs.Settled.{settledOf, totalOf}
-use Rattle.sink.specs.Sink as sink
 use Rattle.settles.specs.Demand.{Run, Path, pathAfter, pathAt, sentAt, fedAt, madeAt, receivedAt, handedAt, unsettled, handedFrom, endedFrom}
 use Rattle.settles.proofs.Units.{sent-is, fed-done, settled-is, total-after, normal, handed-goes, monitor-goes, told-goes}
 use Rattle.settles.proofs.Along.{Runs, Along, Meets, along, late, meets, number-is}

@@ -2,8 +2,7 @@
 -- the first unit over and over, comes to is another number or another list. The containers are 18 bytes, each of its own number. Assumes nothing.
 use mathlib.Core.Path.{_≡_, refl}
 use mathlib.Core.Bool.{true, cond}
-use mathlib.Core.List.{List, [], _∷_}
-use Prim.Native.Nat.{ℕ}
+use mathlib.Core.List.{[], _∷_}
 use lib.Dec.{eqb}
 use lib.ListN.{replicate}
 use Rattle.shape.specs.declared.Shape.{Shape}

@@ -10,7 +10,7 @@ use Rattle.container_source.specs.declared.State.{State}
 use Rattle.container_source_theorems.specs.Run as sending
 use Rattle.unit_source.specs.Source as unit-source
 use Rattle.unit_source.specs.declared.Made.{Made}
-use Rattle.unit_source_theorems.specs.Stream as stream
+use Rattle.unit_source_theorems.specs.Sending as stream
 use Rattle.sink.specs.Sink as sink
 use Rattle.settles.specs.Demand.{Run, Path, Making, Log, Supplied, Settles, Demand, most, eight, sent, fed, pathAfter, pathAt, madeAt, receivedAt, logOf}
 use Rattle.container_source.proofs.SourceLaws.{send-said}

@@ -15,11 +15,6 @@ use Rattle.refusals.specs.Refusals.{answerOf}
 use Rattle.refusals.proofs.Wrong.{outcome-by, none-done}
 use Rattle.shape.specs.Shape.{Fit, unitLength}
 use Rattle.shape.specs.declared.Shape.{Shape}
-use Rattle.container_source.specs.Source as container-source
-use Rattle.container_source.specs.declared.State as container-source-state
-use Rattle.container_source_theorems.specs.Run as sending
-use Rattle.unit_source.specs.Source as unit-source
-use Rattle.unit_source.specs.declared.State as unit-source-state
 use Rattle.pointer_state.specs.State.{isNormal, offsetOf}
 use Rattle.pointer.specs.declared.AfterWord.{AfterWord}
 use Rattle.cut.specs.declared.Cut.{Cut}

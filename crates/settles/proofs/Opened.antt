@@ -3,7 +3,7 @@ use Prim.{Unit, tt}
 use lib.Count.{ones, onesIn}
 use Rattle.container_source.proofs.Opened as container-source
 use Rattle.unit_source.proofs.Opened as unit-source
-use Rattle.unit_source_theorems.specs.Stream.{sendingAfter}
+use Rattle.unit_source_theorems.specs.Sending.{sendingAfter}
 use Rattle.view.specs.View.{partOf, inOrder}
 use Rattle.sink_theorems.specs.Reach.{handed}
 use Rattle.sink_theorems.proofs.Opened as sink

@@ -6,7 +6,7 @@ use Prim.Native.Nat.{ℕ, zero, suc, _+_, _-_, _*_, _%_, _≤_, _<_}
 use native.Mathlib.Nat.{add-suc, mul-le-mul-right, le-trans}
 use native.Mathlib.Omega.{arith}
 use lib.Dec.{leb}
-use lib.ListN.{length, replicate}
+use lib.ListN.{replicate}
 use borrow.Author.Tests.{leb-true, leb-false}
 use Rattle.shape.specs.Shape.{Fit, au4, tu3}
 use Rattle.shape.specs.declared.Shape.{Shape}
@@ -17,14 +17,15 @@ use Rattle.overhead.specs.Violations.{keptOf}
 use Rattle.monitor.specs.Seeing.{seenIn}
 use Rattle.settles_monitor.specs.Near.{Setting, Whole, enough}
 use Rattle.settles_monitor.proofs.Settles.{Near, near-none, near-settled, near-free, setting}
-use Rattle.settles_stream.specs.InOrder.{boxes, violationsAll, violationsTold}
+use Rattle.settles_stream.specs.InOrder.{boxes, violationsTold}
+use Rattle.settles_stream.specs.Inner.{violationsAll}
 use Rattle.unit_end.specs.Settled.{noneStands}
 use Rattle.sink.specs.Sink as sink
 use Rattle.sink_theorems.proofs.Ranges.{reached-in-range}
 use Rattle.settles.specs.Demand.{Run, Path, Making, Reached, Supplied, Good, Settles, Demand, most, eight, Demand3, pathAt, sentAt, fedAt, receivedAt, logOf, unsettled}
 use Rattle.settles.proofs.Kept.{reached-whole, reached-total}
 use Rattle.settles.proofs.Sources as sources
-use Rattle.settles.proofs.Units.{Ready, Settable, defects-is}
+use Rattle.settles.proofs.Units.{Ready, defects-is}
 use Rattle.settles.proofs.Along.{Runs, five, along, late}
 use Rattle.settles.proofs.Count.{numberAt, goes-up, ends-enough}
 use Rattle.settles.proofs.Watched.{Sent, Chained, near-all, parity-on, none-violated-all}

@@ -13,7 +13,7 @@ use Rattle.shape.specs.declared.Adjustment.{Adjustment}
 use Rattle.shape.specs.declared.Adjustment.the-variants.{Nothing}
 use Rattle.unit_source.specs.Source as unit-source
 use Rattle.unit_source.specs.Source.{adjusts, wordSent, unitSent}
-use Rattle.unit_source_theorems.specs.Stream as stream
+use Rattle.unit_source_theorems.specs.Sending as stream
 use Rattle.unit_source_theorems.proofs.Spaced as spaced
 use Rattle.unit_source_theorems.proofs.Words.{word-carried}
 use Rattle.pointer_rules.specs.Rules.{restarts}
@@ -28,7 +28,8 @@ use Rattle.monitor.specs.declared.Monitor.{Monitor}
 use Rattle.settles_pointer.specs.Meant.{meant}
 use Rattle.settles_pointer.proofs.Locks.{meant-goes, meant-adjusts}
 use Rattle.settles_monitor.specs.Near.{Whole}
-use Rattle.settles_stream.specs.InOrder.{boxes, watchedAll, violationsAll, violationsTold}
+use Rattle.settles_stream.specs.InOrder.{boxes, violationsTold}
+use Rattle.settles_stream.specs.Inner.{watchedAll, violationsAll}
 use Rattle.settles_stream.proofs.Seen.{seen-all, told-all}
 use Rattle.settles_stream.proofs.Together.{goes-ended, goes-held, restart-held}
 use Rattle.receiving.specs.Receiving.{UnitOutcome, monitorIn, fromIn, beginIn, cutIn, receivedNormal}

@@ -15,7 +15,8 @@ use Rattle.monitor.specs.declared.Monitor.{Monitor}
 use Rattle.settings.specs.declared.Settings.{Settings}
 use Rattle.settles_monitor.specs.Near.{Setting, Like}
 use Rattle.settles_monitor.proofs.Settles.{Near, near-step, parity-kept, none-violated}
-use Rattle.settles_stream.specs.InOrder.{boxes, watchedAll, violationsAll}
+use Rattle.settles_stream.specs.InOrder.{boxes}
+use Rattle.settles_stream.specs.Inner.{watchedAll, violationsAll}
 
 module _ (columns label : ℕ) (e : Settings) (box : ℕ → List ℕ) where
   -- container j carries this label and what is expected, and the byte of the message that is then due: the one at `place` in container 0

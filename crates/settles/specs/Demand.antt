@@ -26,7 +26,7 @@ use Rattle.container_source_theorems.specs.Run as sending
 use Rattle.unit_source.specs.Source as unit-source
 use Rattle.unit_source.specs.declared.State as unit-source-state
 use Rattle.unit_source.specs.declared.Made.{Made}
-use Rattle.unit_source_theorems.specs.Stream as stream
+use Rattle.unit_source_theorems.specs.Sending as stream
 use Rattle.settles_stream.specs.InOrder.{boxes, violationsTold}
 use Rattle.settings.specs.declared.Settings.{Settings}
 use Rattle.sink.specs.Sink as sink

@@ -25,7 +25,8 @@ use Rattle.pointer_rules.specs.declared.Taken.{Taken}
 use Rattle.pointer_rules.specs.declared.Taken.the-variants.{Resync, Adjusted, Plain, Invalid}
 use Rattle.pointer_rules.specs.declared.Run.{Run}
 use Rattle.pointer.specs.Machine as machine
-use Rattle.pointer.specs.Machine.{noRows, rowsAfter, stateAfter, takenIn, pointerAfter, pointerStep, afterWord}
+use Rattle.pointer.specs.Machine.{noRows, rowsAfter, stateAfter, takenIn, pointerStep}
+use Rattle.pointer.specs.Words.{afterWord}
 use Rattle.pointer.specs.declared.Pointer.{Pointer}
 use Rattle.pointer.specs.declared.AfterWord.{AfterWord}
 use Rattle.settles_pointer.specs.Meant.{meant}
@@ -134,7 +135,7 @@ module _ (top : ℕ) (small : top < 1024) where
     taken-plain p e = simp (taken-source v v-small, e, normal-source v v-small, eq-eqb v v refl, and-false)
 
     follows-plain : (k : ℕ) (p : Pointer) → Locked v k p → Follows top v (more k 3) asked.Nothing (pointerStep p top (plainWord v))
-    unfolding pointerStep pointerAfter rowsAfter stateAfter machine.waitAfter meant offsetAfter
+    unfolding pointerStep rowsAfter stateAfter machine.waitAfter meant offsetAfter
     follows-plain k p l =
         rw (taken-plain p (l .state-is))
         record {
@@ -192,12 +193,12 @@ module _ (top : ℕ) (small : top < 1024) where
 
     -- with the I bits it is an increment
     follows-up : (k : ℕ) (p : Pointer) → 3 ≤ k → Locked v k p → Follows top v 0 asked.Increment (pointerStep p top (invertedWord bitsI v))
-    unfolding pointerStep pointerAfter rowsAfter stateAfter machine.waitAfter meant
+    unfolding pointerStep rowsAfter stateAfter machine.waitAfter meant
     follows-up k p g l = rw (taken-inverted bitsI (omega arith) (omega arith) k p g l, adjustment-I) (record { taken-is = refl; locked = begun })
 
     -- with the D bits a decrement
     follows-down : (k : ℕ) (p : Pointer) → 3 ≤ k → Locked v k p → Follows top v 0 asked.Decrement (pointerStep p top (invertedWord bitsD v))
-    unfolding pointerStep pointerAfter rowsAfter stateAfter machine.waitAfter meant
+    unfolding pointerStep rowsAfter stateAfter machine.waitAfter meant
     follows-down k p g l = rw (taken-inverted bitsD (omega arith) (omega arith) k p g l, adjustment-D) (record { taken-is = refl; locked = begun })
 
     -- ---- any state: the word of v, the third of its run or later
@@ -220,7 +221,7 @@ module _ (top : ℕ) (small : top < 1024) where
     next-third :
         (p : Pointer) → 3 ≤ runAfter (p .run) top (plainWord v) .count
         → afterWord p top (plainWord v) ≡ record { state = Normal v; rows = noRows; run = runAfter (p .run) top (plainWord v); wait = more (p .wait) 3 }
-    unfolding pointerStep takenIn pointerAfter rowsAfter stateAfter machine.waitAfter
+    unfolding pointerStep takenIn rowsAfter stateAfter machine.waitAfter
     next-third p a =
         ⊎-elim (λ e. rw e) (λ e. rw (e .0, e .1)) (taken-third (p .state) (runAfter (p .run) top (plainWord v) .count) (p .wait) a)
 
@@ -245,7 +246,7 @@ module _ (top : ℕ) (small : top < 1024) where
 
     -- one word of v more
     pub nearing-plain : (k : ℕ) (p : Pointer) → Nearing v k p → Nearing v (k + 1) (afterWord p top (plainWord v))
-    unfolding pointerStep pointerAfter
+    unfolding pointerStep
     nearing-plain k p n =
         record {
           run-is = λ _. run-value (p .run);

@@ -12,7 +12,8 @@ use borrow.Author.Tests.{lt-ltb, le-leb, lt-leb}
 use Rattle.shape.specs.Shape.{unitLength}
 use Rattle.shape.specs.declared.Shape.{Shape}
 use Rattle.shape.proofs.Balance.{Balanced}
-use Rattle.cut.specs.Cut.{Line, oneIf, nextOf, insideOf, beginOf, cutOf, completedOf, insidePart, endedOf}
+use Rattle.cut.specs.Cut.{oneIf, nextOf, insideOf, beginOf, cutOf, completedOf, insidePart, endedOf}
+use Rattle.cut.specs.Inner.{Line}
 use Rattle.cut.specs.declared.Cut.{Cut}
 use Rattle.unit.specs.Unit.{runOf}
 use Rattle.unit_source_theorems.proofs.Shares.{take-past}

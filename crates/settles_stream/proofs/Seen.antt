@@ -10,7 +10,8 @@ use Rattle.monitor.specs.Monitoring.{seenOf}
 use Rattle.monitor.specs.declared.Monitor.{Monitor}
 use Rattle.settings.specs.declared.Settings.{Settings}
 use Rattle.receiving.specs.Receiving.{watched, endedIn, bothSeen}
-use Rattle.settles_stream.specs.InOrder.{watchedAll, violationsAll, violationsTold}
+use Rattle.settles_stream.specs.InOrder.{violationsTold}
+use Rattle.settles_stream.specs.Inner.{watchedAll, violationsAll}
 
 -- whether or not each of the two ended
 module _ (columns : ℕ) (completed inside : List ℕ) (m : Monitor) (e : Settings) where

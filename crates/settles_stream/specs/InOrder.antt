@@ -2,27 +2,12 @@
 use Prim.Native.Nat.{ℕ, zero, suc, _+_}
 use mathlib.Core.Bool.{cond}
 use mathlib.Core.List.{List, [], _∷_, _++_}
-use Rattle.overhead.specs.Violations.{violationsOf}
-use Rattle.monitor.specs.Seeing.{seenIn}
-use Rattle.monitor.specs.Monitoring.{monitorStep}
-use Rattle.monitor.specs.declared.Monitor.{Monitor}
-use Rattle.settings.specs.declared.Settings.{Settings}
 use Rattle.receiving.specs.declared.Ended.{Ended}
 
 -- n containers in order, from number i on
 unfoldable pub boxes : (ℕ → List ℕ) → ℕ → ℕ → List (List ℕ)
 boxes box i zero = []
 boxes box i (suc n) = box i ∷ boxes box (i + 1) n
-
--- the monitor after containers watched one after the other
-unfoldable pub watchedAll : ℕ → Settings → Monitor → List (List ℕ) → Monitor
-watchedAll columns e m [] = m
-watchedAll columns e m (c ∷ cs) = watchedAll columns e (monitorStep m (seenIn columns c) e) cs
-
--- and the violations told of each, by the parity of the one before it
-unfoldable pub violationsAll : ℕ → Settings → Monitor → List (List ℕ) → List ℕ
-violationsAll columns e m [] = []
-violationsAll columns e m (c ∷ cs) = violationsOf (m .parity) (seenIn columns c .b3) ∷ violationsAll columns e (monitorStep m (seenIn columns c) e) cs
 
 -- the violations that a unit's answer tells, of the container completed in the done buffer and of the one inside the unit
 unfoldable pub violationsTold : Ended → List ℕ

@@ -21,10 +21,11 @@ use Rattle.pointer.specs.Machine as pointer
 use Rattle.pointer.specs.declared.Pointer.{Pointer}
 use Rattle.pointer.specs.declared.AfterWord.{AfterWord}
 use Rattle.pointer.proofs.Ranges.{offset-low, step-in-range}
-use Rattle.cut.specs.Cut.{Line}
+use Rattle.cut.specs.Inner.{Line}
 use Rattle.cut.proofs.Lines.{line-goes, line-restarts}
 use Rattle.settings.specs.declared.Settings.{Settings}
-use Rattle.receiving.specs.Receiving.{UnitOutcome, beginIn, fromIn, silence, Receivable, NormalOutcomeIs}
+use Rattle.receiving.specs.Receiving.{UnitOutcome, beginIn, fromIn, silence}
+use Rattle.receiving.specs.Inner.{Receivable, NormalOutcomeIs}
 use Rattle.receiving.specs.declared.AfterUnit.{AfterUnit}
 use Rattle.unit_end.specs.Terms.{has, orAny, andAll, andNone, termination}
 use Rattle.unit_end.specs.Actions.{defectsOf, ssfOf, actionsOf, causesOf}

@@ -13,7 +13,7 @@ use Rattle.refusals.specs.Refusals.{Fault, answerSays, given, saidBy, outcome}
 use Rattle.refusals.specs.declared.Refusal.{Refusal}
 use Rattle.refusals.specs.declared.Refusal.the-variants as wrong
 use Rattle.refusals.specs.declared.Answer.the-variants.{Done, Refused}
-use Rattle.shape.specs.Shape.{Fit, unitLength, heldCount}
+use Rattle.shape.specs.Shape.{unitLength, heldCount}
 use Rattle.shape.specs.declared.Shape.{Shape}
 use Rattle.pointer_state.specs.State.{isAlarm, isLost, isNormal, offsetOf}
 use Rattle.pointer.specs.Machine as pointer

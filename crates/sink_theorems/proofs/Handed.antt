@@ -17,7 +17,8 @@ use Rattle.cut.proofs.Within.{inside-fits}
 use Rattle.cut.proofs.Outcome.{done-length}
 use Rattle.view.specs.View.{partOf, inOrder}
 use Rattle.view.proofs.Parts.{part-whole, part-fits}
-use Rattle.receiving.specs.Receiving.{beginIn, cutIn, endedIn, bothSeen, receivedNormal, silence, Receivable}
+use Rattle.receiving.specs.Receiving.{beginIn, cutIn, endedIn, bothSeen, receivedNormal, silence}
+use Rattle.receiving.specs.Inner.{Receivable}
 use Rattle.sink.specs.Sink.{ReceivedOutcome, pointed, unitOutcome, told, refusing, sink}
 use Rattle.sink.specs.Inner.{Fed}
 use Rattle.sink.specs.declared.State.{State}

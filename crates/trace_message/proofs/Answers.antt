@@ -6,7 +6,7 @@ use Prim.Native.Nat.{ℕ, _+_, _*_, _<_}
 use lib.Bits.{bitXor}
 use lib.Dec.{eqb}
 use Rattle.trace_message.specs.Message.{startByte, topBitsClear, goodMessage}
-use Rattle.trace_message.specs.Register.{bitsIn, bytesIn, reduced}
+use Rattle.trace_message.specs.InnerRegister.{bitsIn, bytesIn, reduced}
 use Rattle.trace_message.proofs.Division.{bits-lt, check7-register}
 use Rattle.trace_message.proofs.Bytewise.{byte-in, seven-in}
 

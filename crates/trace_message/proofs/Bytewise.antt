@@ -11,7 +11,7 @@ use lib.Pow.{pow-pos}
 use lib.Dec.{eqb, lit<}
 use Rattle.laws.proofs.Bits.{xor-assoc}
 use Rattle.laws.proofs.Tables.{every, every-at}
-use Rattle.trace_message.specs.Register.{shifted, bitsIn, reduced}
+use Rattle.trace_message.specs.InnerRegister.{shifted, bitsIn, reduced}
 use Rattle.trace_message.proofs.Laws.{shifted-lt}
 
 -- two functions agree below n where a test that is computed says so

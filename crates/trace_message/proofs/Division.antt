@@ -12,7 +12,7 @@ use lib.Seq.{take-append-le}
 use borrow.Author.Tests.{eqb-true}
 use Rattle.laws.proofs.Tables.{every, every-at}
 use Rattle.trace_message.specs.Message.{coefficients, polynomial, minus, divisor, remainder, number, check7, alike}
-use Rattle.trace_message.specs.Register.{shifted, bitsIn, bytesIn}
+use Rattle.trace_message.specs.InnerRegister.{shifted, bitsIn, bytesIn}
 use Rattle.trace_message.proofs.Alike.{alike-same}
 use Rattle.trace_message.proofs.Laws.{shifted-lt}
 

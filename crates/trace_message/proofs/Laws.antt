@@ -12,7 +12,7 @@ use lib.Bits.{xor-lt}
 use lib.Dec.{eqb, ltb, lit<}
 use Rattle.laws.proofs.Tests.{by-test, and-assoc, and-true}
 use Rattle.trace_message.specs.Message.{topBitsClear, goodMessage, traceCheck, alike}
-use Rattle.trace_message.specs.Register.{shifted, bitsIn, bytesIn}
+use Rattle.trace_message.specs.InnerRegister.{shifted, bitsIn, bytesIn}
 
 -- ---- the register
 

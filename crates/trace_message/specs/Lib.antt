@@ -1,2 +1,2 @@
 pub mod Message
-pub mod Register
+pub mod InnerRegister

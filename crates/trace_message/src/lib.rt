@@ -3,7 +3,7 @@
 ghost use mathlib.Core.Path.{_≡_};
 ghost use Prim.Native.Nat.{_<_};
 ghost use Rattle.trace_message.specs.Message.{check7, startByte, topBitsClear, goodMessage, traceCheck, alike};
-ghost use Rattle.trace_message.specs.Register.{bitsIn, bytesIn, reduced};
+ghost use Rattle.trace_message.specs.InnerRegister.{bitsIn, bytesIn, reduced};
 
 // A byte as a polynomial: its top bit is the coefficient of x^7.
 fn wide(x: u8) -> u32

@@ -8,7 +8,8 @@ use lib.Seq.{take-at, drop-at, getD-at, length-take-le}
 use borrow.Rule.Slice.PartMut.{putMid, mid-len}
 use Rattle.copier.proofs.Parts.{put-part, put-next, put-last, take-both}
 use Rattle.word.specs.Word.{h1Of, h2Of}
-use Rattle.unit.specs.Unit.{groupOf, headOf, runOf, Head, Pour}
+use Rattle.unit.specs.Unit.{groupOf, headOf, runOf}
+use Rattle.unit.specs.Inner.{Head, Pour}
 
 -- ---- a group
 

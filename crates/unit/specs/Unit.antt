@@ -1,7 +1,7 @@
 -- The bytes of a unit that is sent, of 01, "Layouts": "H1 Y Y H2 1* 1* H3 H3 H3, then 2349 bytes in pointer order". The header is three groups, of three bytes in AU-4.
-use Prim.Native.Nat.{ℕ, _+_, _-_, _*_, _≤_}
+use Prim.Native.Nat.{ℕ, _+_, _-_, _*_}
 use mathlib.Core.List.{List, _∷_, _++_}
-use lib.ListN.{length, take, drop, replicate}
+use lib.ListN.{take, drop, replicate}
 use Rattle.word.specs.Word.{h1Of, h2Of}
 
 -- a group of the header: its first byte, and the others
@@ -15,17 +15,3 @@ headOf step word from = groupOf step (h1Of word) 0x9b ++ (groupOf step (h2Of wor
 -- the run: the current container from the first byte not sent, and then the next, as many bytes as there is room for
 unfoldable pub runOf : ℕ → ℕ → List ℕ → List ℕ → List ℕ
 runOf room sent current next = take room (drop sent current ++ next)
-
--- ---- what the writing functions ask
-
--- a run that begins in the unit, and not before H3
-pub record Head (step from : ℕ) (unit : List ℕ) : Type 0 where
-  pub some : 1 ≤ step
-  pub behind : 2 * step ≤ from
-  pub within : from ≤ length unit
-
--- two containers that have as many bytes as there is room for
-pub record Pour (current next : List ℕ) (sent from : ℕ) (unit : List ℕ) : Type 0 where
-  pub within : from ≤ length unit
-  pub begun : sent ≤ length current
-  pub enough : length unit - from ≤ length current - sent + length next

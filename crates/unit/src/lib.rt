@@ -3,7 +3,8 @@ ghost use mathlib.Core.Path.{_≡_};
 ghost use mathlib.Core.List.{_++_};
 ghost use Prim.Native.Nat.{_-_, _≤_, min};
 ghost use lib.ListN.{length, take, drop};
-ghost use Rattle.unit.specs.Unit.{Head, Pour, groupOf, headOf, runOf};
+ghost use Rattle.unit.specs.Unit.{groupOf, headOf, runOf};
+ghost use Rattle.unit.specs.Inner.{Head, Pour};
 
 // A group of the header: its first byte, and the others.
 fn group(dst: &mut [u8], first: u8, others: u8)

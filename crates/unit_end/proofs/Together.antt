@@ -6,7 +6,6 @@ use Prim.Native.Nat.{ℕ}
 use native.Mathlib.Omega.{arith}
 use lib.ListN.{getD}
 use Rattle.trace_monitor.specs.Trace.{blankTrace}
-use Rattle.monitor.specs.declared.Monitor.{Monitor}
 use Rattle.monitor.specs.Monitoring.{blankOf}
 use Rattle.settings.specs.declared.Flags.{Flags}
 use Rattle.unit_end.specs.declared.Defects.{Defects}

@@ -16,7 +16,8 @@ use Rattle.refusals.specs.declared.Answer.the-variants.{Done, Refused}
 use Rattle.shape.specs.Shape.{unitLength, offsetAfter, endedBy}
 use Rattle.shape.specs.declared.Shape.{Shape}
 use Rattle.shape.specs.declared.Adjustment.{Adjustment}
-use Rattle.unit_source.specs.Source.{Ready, adjusts, sourceOutOfRange, makeFaults, unitSent, sourceWaitAfter, unitSourceAfter, MadeOutcome, unitSource, MakesAs, Makes}
+use Rattle.unit_source.specs.Source.{adjusts, sourceOutOfRange, makeFaults, unitSent, sourceWaitAfter, unitSourceAfter, MadeOutcome, unitSource, MakesAs, Makes}
+use Rattle.unit_source.specs.Inner.{Ready}
 use Rattle.unit_source.specs.declared.State.{State}
 use Rattle.unit_source.specs.declared.Made.{Made}
 

@@ -8,9 +8,11 @@ use Rattle.shape.specs.Shape.{Fit, heldCount, runFrom}
 use Rattle.shape.specs.declared.Shape.{Shape}
 use Rattle.shape.specs.declared.Adjustment.{Adjustment}
 use Rattle.shape.proofs.Offsets.{held-low, run-begins}
-use Rattle.unit.specs.Unit.{headOf, runOf, Head, Pour}
+use Rattle.unit.specs.Unit.{headOf, runOf}
+use Rattle.unit.specs.Inner.{Head, Pour}
 use Rattle.unit.proofs.Writing.{length-head, head-long, written-is}
-use Rattle.unit_source.specs.Source.{wordSent, unitSent, Ready}
+use Rattle.unit_source.specs.Source.{wordSent, unitSent}
+use Rattle.unit_source.specs.Inner.{Ready}
 
 module _ (s : Shape) (a : Adjustment) (v : ℕ) (c n d : List ℕ) (f : Fit s) (ready : Ready s v (length c) (length n) (length d)) (from : ℕ) (from-is : from ≡ runFrom (s .step) a) where
   pub write-head : Head (s .step) from d

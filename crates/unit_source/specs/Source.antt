@@ -1,6 +1,6 @@
 -- The unit source: one call, as a function of all that it is given. 01, "Layouts", "Reading one pointer word" (its last words, on adjustments) and "Refusal numbers".
 use mathlib.Core.Path.{_≡_}
-use Prim.Native.Nat.{ℕ, _-_, _≤_}
+use Prim.Native.Nat.{ℕ, _-_}
 use mathlib.Core.Bool.{Bool, true, false, _&&_, _||_, not}
 use mathlib.Core.List.{List, [], _∷_, _++_}
 use lib.Dec.{eqb, ltb}
@@ -91,11 +91,3 @@ MakesAs s state a current next before r after = _≡_ {A = MadeOutcome} (record 
 pub record Makes (s : Shape) (state : State) (a : Adjustment) (current next before : List ℕ) (r : Made) (after : List ℕ) : Type 0 where
   pub number-is : answerSays (r .answer) ≡ saidBy (0 ∷ []) (makeFaults s state a (length current) (length next) (length before))
   pub outcome-is : MakesAs s state a current next before r after
-
--- ---- where a unit can be written
-
-pub record Ready (s : Shape) (offset current next unit : ℕ) : Type 0 where
-  pub offset-low : offset ≤ s .top
-  pub current-is : current ≡ s .size
-  pub next-is : next ≡ s .size
-  pub unit-is : unit ≡ unitLength s

@@ -11,7 +11,8 @@ use Rattle.shape.specs.declared.Adjustment.{Adjustment}
 use Rattle.shape.specs.declared.Adjustment.the-variants.{Nothing, Increment, Decrement}
 use Rattle.unit_source.specs.Source.{freshUnitSource, unitSent}
 use Rattle.unit_source.proofs.Opened as source
-use Rattle.unit_source_theorems.specs.Stream.{Sending, isDone, unitSourceCalled, sendingAfter, shareIn, shares, ended, allDone, joined}
+use Rattle.unit_source_theorems.specs.Sending.{Sending, unitSourceCalled, sendingAfter}
+use Rattle.unit_source_theorems.specs.Stream.{isDone, shareIn, shares, ended, allDone, joined}
 
 -- ---- AU-4
 

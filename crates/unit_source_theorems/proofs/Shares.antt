@@ -22,9 +22,11 @@ use Rattle.shape.proofs.Offsets.{held-low, run-begins}
 use Rattle.shape.proofs.Balance.{balance}
 use Rattle.unit.specs.Unit.{headOf, runOf}
 use Rattle.unit.proofs.Writing.{length-head}
-use Rattle.unit_source.specs.Source.{MadeOutcome, Ready, makeFaults, wordSent, unitSent, unitSourceAfter}
+use Rattle.unit_source.specs.Source.{MadeOutcome, makeFaults, wordSent, unitSent, unitSourceAfter}
+use Rattle.unit_source.specs.Inner.{Ready}
 use Rattle.unit_source.proofs.Answers.{makable, source-done, source-refused}
-use Rattle.unit_source_theorems.specs.Stream.{Sending, unitSourceCalled, sendingAfter, shareIn, share, underWay, atEnd, shares, ended, joined, LastSent}
+use Rattle.unit_source_theorems.specs.Sending.{Sending, unitSourceCalled, sendingAfter}
+use Rattle.unit_source_theorems.specs.Stream.{shareIn, share, underWay, atEnd, shares, ended, joined, LastSent}
 
 -- ---- the bytes of two containers, cut after k of them
 

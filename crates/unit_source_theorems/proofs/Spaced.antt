@@ -16,9 +16,11 @@ use Rattle.shape.specs.declared.Adjustment.the-variants.{Nothing, Increment, De
 use Rattle.shape.proofs.Offsets.{after-low, held-low, run-begins}
 use Rattle.unit.specs.Unit.{runOf}
 use Rattle.unit.proofs.Writing.{length-head}
-use Rattle.unit_source.specs.Source.{MadeOutcome, Ready, adjusts, sourceOutOfRange, wordSent, unitSent, sourceWaitAfter, unitSourceAfter}
+use Rattle.unit_source.specs.Source.{MadeOutcome, adjusts, sourceOutOfRange, wordSent, unitSent, sourceWaitAfter, unitSourceAfter}
+use Rattle.unit_source.specs.Inner.{Ready}
 use Rattle.unit_source.proofs.Answers.{not-refused, wrong-adjustment, source-done, source-refused}
-use Rattle.unit_source_theorems.specs.Stream.{Sending, isDone, unitSourceCalled, sendingAfter, allDone, spaced}
+use Rattle.unit_source_theorems.specs.Sending.{Sending, unitSourceCalled, sendingAfter}
+use Rattle.unit_source_theorems.specs.Stream.{isDone, allDone, spaced}
 
 -- a source that any unit can be asked of: its numbers in range, its containers and the lent unit of the right lengths
 pub record Fine (s : Shape) (box : ℕ → List ℕ) (x : Sending) : Type 0 where

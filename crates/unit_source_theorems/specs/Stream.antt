@@ -1,4 +1,4 @@
--- A unit source called again and again: it is given its containers in order, the next ones after as many as it says ended, and the buffer of one unit is lent again for the next.
+-- What the units of a source carry, call after call: the theorems about its stream speak of this.
 use Prim.Native.Nat.{ℕ, zero, suc, _+_, _*_, _≤_}
 use mathlib.Core.Bool.{Bool, true, false, _&&_, not}
 use lib.Dec.{ltb}
@@ -9,39 +9,21 @@ use Rattle.refusals.specs.declared.Answer.the-variants.{Done, Refused}
 use Rattle.shape.specs.Shape.{heldCount, runFrom}
 use Rattle.shape.specs.declared.Shape.{Shape}
 use Rattle.shape.specs.declared.Adjustment.{Adjustment}
-use Rattle.unit_source.specs.Source.{MadeOutcome, adjusts, sourceWaitAfter, unitSource}
-use Rattle.unit_source.specs.declared.State.{State}
+use Rattle.unit_source.specs.Source.{adjusts, sourceWaitAfter}
+use Rattle.unit_source_theorems.specs.Sending.{Sending, unitSourceCalled, sendingAfter}
 
 unfoldable pub isDone : Answer → Bool
 isDone Done = true
 isDone (Refused x) = false
 
--- a source between two calls: its state, the number of its current container, and what stands in the lent unit
-pub record Sending : Type 0 where
-  pub state : State
-  pub number : ℕ
-  pub unit : List ℕ
-
 module _ (s : Shape) (box : ℕ → List ℕ) where
-  -- ---- one call
-
-  -- with the current container and the next
-  abbrev pub unitSourceCalled : Sending → Adjustment → MadeOutcome
-  unitSourceCalled x a = unitSource s (x .state) a (box (x .number)) (box (x .number + 1)) (x .unit)
-
-  -- as many containers further as it says ended
-  unfoldable pub sendingAfter : Sending → Adjustment → Sending
-  sendingAfter x a =
-      let o = unitSourceCalled x a in
-      record { state = o .made .state; number = x .number + o .made .ended; unit = o .unit }
-
   -- a unit's share: the container bytes in it, from where its run begins to its end
   unfoldable pub shareIn : Adjustment → Answer → List ℕ → List ℕ
   shareIn a Done unit = drop (runFrom (s .step) a) unit
   shareIn a (Refused x) unit = []
 
   abbrev pub share : Sending → Adjustment → List ℕ
-  share x a = shareIn a (unitSourceCalled x a .made .answer) (unitSourceCalled x a .unit)
+  share x a = shareIn a (unitSourceCalled s box x a .made .answer) (unitSourceCalled s box x a .unit)
 
   -- what was sent before of the current container
   abbrev pub underWay : Sending → List ℕ
@@ -51,22 +33,22 @@ module _ (s : Shape) (box : ℕ → List ℕ) where
 
   unfoldable pub atEnd : Sending → List Adjustment → Sending
   atEnd x [] = x
-  atEnd x (a ∷ row) = atEnd (sendingAfter x a) row
+  atEnd x (a ∷ row) = atEnd (sendingAfter s box x a) row
 
   -- the shares, joined
   unfoldable pub shares : Sending → List Adjustment → List ℕ
   shares x [] = []
-  shares x (a ∷ row) = share x a ++ shares (sendingAfter x a) row
+  shares x (a ∷ row) = share x a ++ shares (sendingAfter s box x a) row
 
   -- how many containers the calls said ended
   unfoldable pub ended : Sending → List Adjustment → ℕ
   ended x [] = 0
-  ended x (a ∷ row) = unitSourceCalled x a .made .ended + ended (sendingAfter x a) row
+  ended x (a ∷ row) = unitSourceCalled s box x a .made .ended + ended (sendingAfter s box x a) row
 
   -- every call of the row is done
   unfoldable pub allDone : Sending → List Adjustment → Bool
   allDone x [] = true
-  allDone x (a ∷ row) = isDone (unitSourceCalled x a .made .answer) && allDone (sendingAfter x a) row
+  allDone x (a ∷ row) = isDone (unitSourceCalled s box x a .made .answer) && allDone (sendingAfter s box x a) row
 
 -- adjustments with "at least three units" between them, and after the last one before the row
 unfoldable pub spaced : ℕ → List Adjustment → Bool

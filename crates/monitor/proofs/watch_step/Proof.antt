@@ -25,6 +25,5 @@ trace-step-requires c κs = search needs
 returns : tie.Need-returns
 returns c = search watched
 
-
 pub watch-step-spec : {M : Type 1} → statement M
 watch-step-spec = tie.close (tie.spec accept-step-requires mismatch-requires defect-step-requires remote-requires defect-step-requires-2 trace-step-requires returns)

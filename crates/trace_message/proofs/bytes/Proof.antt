@@ -4,7 +4,7 @@ use Prim.Native.Nat.{_<_, _≤_, _-_}
 use native.Mathlib.Omega.{arith}
 use borrow.Author.Needs.{needs}
 use lib.ListN.{length, drop}
-use Rattle.trace_message.specs.Register.{bytesIn}
+use Rattle.trace_message.specs.InnerRegister.{bytesIn}
 use Rattle.trace_message.proofs.Laws.{bytes-turn, bytes-end}
 use Rattle.trace_message.proofs.bytes.Statement.{statement}
 use Rattle.trace_message.proofs.bytes.Tie as tie

@@ -1,7 +1,7 @@
 -- `trace_message::reduce` meets its contract. Assumes nothing.
 use mathlib.Core.Path.{refl}
 use borrow.Author.Needs.{needs}
-use Rattle.trace_message.specs.Register.{reduced}
+use Rattle.trace_message.specs.InnerRegister.{reduced}
 use Rattle.trace_message.proofs.reduce.Statement.{statement}
 use Rattle.trace_message.proofs.reduce.Tie as tie
 
