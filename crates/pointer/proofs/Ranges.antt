@@ -25,15 +25,6 @@ use Rattle.pointer.specs.Machine.{freshPointer, rowsAfter, alarmWord, re
 use Rattle.pointer.specs.declared.Rows.{Rows}
 use Rattle.pointer.specs.declared.Pointer.{Pointer}
 
--- ---- isNormal, offsetOf
-
--- a normal state is its offset's
-pub normal-at : (state : State) → isNormal state ≡ true → state ≡ Normal (offsetOf state)
-unfolding isNormal offsetOf
-normal-at (Normal at) e = refl
-normal-at Alarm e = absurd (false≢true e)
-normal-at Lost e = absurd (false≢true e)
-
 -- ---- placed
 
 pub placed-low : (top : ℕ) (state : State) → placed top state ≡ true → offsetOf state ≤ top

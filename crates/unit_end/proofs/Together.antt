@@ -11,7 +11,7 @@ use Rattle.settings.specs.declared.Flags.{Flags}
 use Rattle.unit_end.specs.declared.Defects.{Defects}
 use Rattle.unit_end.specs.declared.Causes.{Causes}
 use Rattle.unit_end.specs.Terms.{has, orAny, andAll, andNone, termination}
-use Rattle.unit_end.specs.Actions.{defectsOf, causesOf, noDefects}
+use Rattle.unit_end.specs.Actions.{defectsOf, causesOf}
 use Rattle.unit_end.specs.Together.{Cause, cAIS, cLOP, cSSF, cUNEQ, cTIM, cRDI, cPLM, stands, partners, causePlace, among, related}
 use Rattle.unit_end.proofs.Decide.{unless, all, all-at, every, every-at}
 
@@ -83,18 +83,3 @@ cleared-related false false n h = refl
 pub normal-related : (d : Defects) → related false false d ≡ true
 unfolding related
 normal-related d = refl
-
--- ---- the three pairs do stand
-
-abbrev pub allFlags : Flags
-allFlags = record { monitored = true; rdi = true; ssf = true; ais = true }
-
-abbrev pub plmAndRdi : Defects
-plmAndRdi = record { uneq = false; tim = false; plm = true; rdi = true }
-
-pub pairs-stand :
-    (causesOf termination true false noDefects allFlags ≡ record { ais = true; lop = false; ssf = true; uneq = false; tim = false; rdi = false; plm = false })
-    × (causesOf termination false true noDefects allFlags ≡ record { ais = false; lop = true; ssf = true; uneq = false; tim = false; rdi = false; plm = false })
-    × (causesOf termination false false plmAndRdi allFlags ≡ record { ais = false; lop = false; ssf = false; uneq = false; tim = false; rdi = true; plm = true })
-unfolding has orAny andAll andNone causesOf
-pairs-stand = (refl, refl, refl)
