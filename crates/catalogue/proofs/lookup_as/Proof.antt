@@ -4,17 +4,14 @@ use borrow.Author.Needs.{needs}
 use Rattle.catalogue.proofs.lookup_as.Statement.{statement}
 use Rattle.catalogue.proofs.lookup_as.Tie as tie
 
-check-as-requires : tie.Need-check-as-requires
-check-as-requires c κs = search needs
-
-enum-known-n : tie.Need-enum-known-n
-enum-known-n c = search needs
+enum-known-checked : tie.Need-enum-known-checked
+enum-known-checked c = search needs
 
 find-requires : tie.Need-find-requires
 find-requires c κs = search good-whole
 
-enum-known-x : tie.Need-enum-known-x
-enum-known-x c = search needs
+enum-known-checked-2 : tie.Need-enum-known-checked-2
+enum-known-checked-2 c = search needs
 
 not-found-requires : tie.Need-not-found-requires
 not-found-requires c κs = search needs
@@ -29,10 +26,9 @@ pub lookup-as-spec : {M : Type 1} → statement M
 lookup-as-spec =
     tie.close
     (tie.spec
-    check-as-requires
-    enum-known-n
+    enum-known-checked
     find-requires
-    enum-known-x
+    enum-known-checked-2
     not-found-requires
     returns
     returns-2)
