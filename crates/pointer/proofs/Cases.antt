@@ -1,16 +1,37 @@
 -- What a word leads to, by how it was taken: each way through the code is a row of the tables. Assumes nothing.
 use mathlib.Core.Path.{_≡_, refl}
-use mathlib.Core.Bool.{cond}
+use mathlib.Core.Bool.{Bool, cond, _&&_}
 use Prim.Native.Nat.{ℕ}
+use lib.Dec.{leb}
 use Rattle.counts.specs.Counts.{more}
 use Rattle.shape.specs.declared.Adjustment.{Adjustment}
-use Rattle.pointer_state.specs.State.{isNormal}
+use Rattle.pointer_state.specs.State.{isNormal, placed}
 use Rattle.pointer_state.specs.declared.State.{State}
 use Rattle.pointer_state.specs.declared.State.the-variants.{Normal}
+use Rattle.pointer_rules.specs.Rules.{runAfter, takenAs}
+use Rattle.pointer_rules.specs.declared.Run.{Run}
 use Rattle.pointer_rules.specs.declared.Taken.{Taken}
 use Rattle.pointer_rules.specs.declared.Taken.the-variants.{AlarmWord, NewData, Resync, Adjusted, Plain, Invalid}
 use Rattle.pointer.specs.declared.Rows.{Rows}
-use Rattle.pointer.specs.Machine.{noRows, rowsAfter, alarmWord, newData, invalid, stateAfter, waitAfter}
+use Rattle.pointer.specs.declared.Pointer.{Pointer}
+use Rattle.pointer.specs.Machine.{noRows, rowsAfter, alarmWord, newData, invalid, stateAfter, waitAfter, takenIn, pointerStep, pointerInRange}
+
+-- ---- the step
+
+pub stepped : (s : Pointer) (top w : ℕ) (run : Run) (t : Taken) (rows : Rows) (state : State) (wait : ℕ)
+    → run ≡ runAfter (s .run) top w → t ≡ takenAs (s .state) (run .count) (s .wait) top w → rows ≡ rowsAfter (s .rows) t
+    → state ≡ stateAfter (s .state) rows t → wait ≡ waitAfter (s .wait) state t
+    → record { taken = t; pointer = record { state = state; rows = rows; run = run; wait = wait } } ≡ pointerStep s top w
+unfolding pointerStep takenIn
+stepped s top w run t rows state wait r k o a i = rw (i, a, o, k, r) refl
+
+-- ---- ranges
+
+pub ranges-tested : (top : ℕ) (s : Pointer) (b : Bool) → b ≡ placed top (s .state)
+    → (b && (leb (s .rows .alarms) 3 && leb (s .rows .news) 8 && leb (s .rows .invalids) 8) && (leb (s .run .count) 3 && leb (s .run .value) top) && leb (s .wait) 3)
+    ≡ pointerInRange top s
+unfolding pointerInRange
+ranges-tested top s b e = rw e refl
 
 -- ---- the rows
 

@@ -2,7 +2,7 @@
 use mathlib.Core.Path.{_≡_, refl, sym, ap, _∙_}
 use mathlib.Core.Bool.{Bool, true, false, cond}
 use mathlib.Core.List.{List}
-use Prim.Native.Nat.{ℕ, zero, suc, _+_, _-_, _*_, _<_, _≤_}
+use Prim.Native.Nat.{ℕ, zero, suc, _+_, _-_, _*_, _<_, _≤_, _^_}
 use native.Mathlib.Omega.{arith}
 use native.Mathlib.Numerals.{add-one}
 use lib.Dec.{eqb}
@@ -92,9 +92,19 @@ ended-told c first second a b p h i j = rw (h, i, j) refl
 pub done-long : (s : Shape) (done : List ℕ) → Fit s → length done ≡ s .size → (0 < s .columns) × (3 * s .columns < length done)
 done-long s done f l = (some-columns s f, omega (arith, l, some-columns s f, f .nine))
 
+pub done-seen : (s : Shape) (c : Cut) (unit done : List ℕ) → Seeable s c unit done → (0 < s .columns) × (3 * s .columns < length done)
+done-seen s c unit done w = done-long s done (w .part .fit) (w .done-is)
+
 module _ (s : Shape) (c : Cut) (unit : List ℕ) (w : Inside s c unit) (h : c .inside ≡ true) where
   pub end-low : c .next + s .size ≤ unitLength s
   end-low = omega (arith, w .within h, w .low)
+
+  -- so that the end is a number of the machine's, and a place in the unit
+  pub end-counted : c .next + s .size < 2 ^ 64
+  end-counted = omega (arith, end-low, w .fit .two, w .fit .low)
+
+  pub end-within : c .next + s .size ≤ length unit
+  end-within = w .within h
 
   part-is : take (c .next + s .size - c .next) (drop (c .next) unit) ≡ insidePart s c unit
   unfolding insidePart

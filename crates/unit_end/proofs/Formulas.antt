@@ -1,10 +1,13 @@
--- The formulas of a termination, written out: the terms add nothing to them, and leave nothing out. Assumes nothing.
+-- The formulas of a termination, written out: the terms add nothing to them, and leave nothing out; and what settled comes to. Assumes nothing.
 use mathlib.Core.Path.{_≡_, refl}
 use mathlib.Core.Bool.{Bool, _&&_, _||_, not}
 use Rattle.settings.specs.declared.Flags.{Flags}
+use Rattle.settings.specs.declared.Settings.{Settings}
+use Rattle.monitor.specs.declared.Monitor.{Monitor}
 use Rattle.unit_end.specs.declared.Defects.{Defects}
 use Rattle.unit_end.specs.Terms.{has, orAny, andAll, andNone, termination}
-use Rattle.unit_end.specs.Actions.{tsfOf, actionsOf, causesOf}
+use Rattle.unit_end.specs.Actions.{defectsOf, tsfOf, actionsOf, causesOf}
+use Rattle.unit_end.specs.Settled.{noneStands, labelExpected, traceExpected, settledOf}
 
 -- "TSF = SSF or dUNEQ or dTIM"
 pub tsf-are : (ssf : Bool) (d : Defects) → (ssf || d .uneq || d .tim) ≡ tsfOf termination ssf d
@@ -31,3 +34,10 @@ pub causes-are : (alarm lost tsf : Bool) (d : Defects) (f : Flags) → tsf ≡ t
     ≡ causesOf termination alarm lost d f
 unfolding has andAll andNone causesOf
 causes-are alarm lost tsf d f e = rw e refl
+
+-- "if the state is normal" and the three hold
+pub settled-are : (normal : Bool) (m : Monitor) (e : Settings) (d : Defects) (none label trace : Bool)
+    → d ≡ defectsOf m → none ≡ noneStands d → label ≡ labelExpected (m .watch .label) (e .label) → trace ≡ traceExpected (m .watch .trace) (e .trace)
+    → (normal && none && label && trace) ≡ settledOf normal m e
+unfolding settledOf
+settled-are normal m e d none label trace d-is n l t = rw (n, l, t, d-is) refl

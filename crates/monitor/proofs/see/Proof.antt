@@ -1,5 +1,5 @@
 -- `monitor::see` meets its contract: four bytes at their places, and the parity. Assumes nothing.
-use Rattle.monitor.proofs.Places.{seen-at}
+use Rattle.monitor.proofs.Places.{seen-read}
 use borrow.Author.Needs.{needs}
 use Rattle.monitor.proofs.see.Statement.{statement}
 use Rattle.monitor.proofs.see.Tie as tie
@@ -26,9 +26,7 @@ parity-requires : tie.Need-parity-requires
 parity-requires c κs = search needs
 
 returns : tie.Need-returns
-returns c =
-    let k = c .before .before .before .before .before .before in
-    rw (seen-at (k .args .columns) (k .args .container .now) (k .pre .0), c .parity .ensures)
+returns c = search seen-read fits 20000
 
 pub see-spec : {M : Type 1} → statement M
 see-spec =

@@ -1,6 +1,5 @@
 -- `monitor::step` meets its contract: what is watched steps, and the parity is kept. Assumes nothing.
-use Rattle.overhead.specs.Violations.{keptOf}
-use Rattle.monitor.specs.Monitoring.{monitorStep, seenOf}
+use Rattle.monitor.proofs.Steps.{stepped}
 use borrow.Author.Needs.{needs}
 use Rattle.monitor.proofs.step.Statement.{statement}
 use Rattle.monitor.proofs.step.Tie as tie
@@ -15,8 +14,7 @@ returned-requires : tie.Need-returned-requires
 returned-requires c κs = search needs
 
 returns : tie.Need-returns
-unfolding seenOf monitorStep keptOf
-returns c = simp (c .returned .ensures, c .before .watch-step .ensures, c .before .before .violations .ensures)
+returns c = search stepped fits 20000
 
 pub step-spec : {M : Type 1} → statement M
 step-spec = tie.close (tie.spec violations-requires watch-step-requires returned-requires returns)

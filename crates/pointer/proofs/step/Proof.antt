@@ -1,5 +1,5 @@
 -- `pointer::step` meets its contract: run, taking, rows, state and wait, each from the one before. Assumes nothing.
-use Rattle.pointer.specs.Machine.{pointerStep, takenIn}
+use Rattle.pointer.proofs.Cases.{stepped}
 use borrow.Author.Needs.{needs}
 use Rattle.pointer.proofs.step.Statement.{statement}
 use Rattle.pointer.proofs.step.Tie as tie
@@ -20,8 +20,7 @@ wait-after-requires : tie.Need-wait-after-requires
 wait-after-requires c κs = search needs
 
 returns : tie.Need-returns
-unfolding pointerStep takenIn
-returns c = simp (c .wait-after .ensures, c .before .state-after .ensures, c .before .before .rows-after .ensures, c .before .before .before .take .ensures, c .before .before .before .before .run-after .ensures)
+returns c = search stepped fits 20000
 
 pub step-spec : {M : Type 1} → statement M
 step-spec =

@@ -12,10 +12,7 @@ container-requires : tie.Need-container-requires
 container-requires c κs = search needs
 
 returns : tie.Need-returns
-returns c =
-    let given = c .before in
-    let s = given .before .before .before .before .before in
-    hands-none (given .before .au4-shape .result) (s .args .ended) (now (s .args .unit)) (now (s .args .done)) (s .args .k) (now (given .container .result)) (given .before .au4-shape .ensures) (given .container .ensures) (now (s .args .out)) (c .if1 .taken)
+returns c = search hands-none
 
 copy-at-requires : tie.Need-copy-at-requires
 copy-at-requires c κs = search needs
@@ -24,11 +21,7 @@ same-length : tie.Need-same-length
 same-length c = search needs
 
 returns-2 : tie.Need-returns-2
-returns-2 c =
-    let room = c .before .before .before .before in
-    let given = room .before in
-    let s = given .before .before .before .before .before in
-    hands-all (given .before .au4-shape .result) (s .args .ended) (now (s .args .unit)) (now (s .args .done)) (s .args .k) (now (given .container .result)) (given .before .au4-shape .ensures) (given .container .ensures) (now (s .args .out)) (c .before .before .copy-at .last .1 .0) (room .if1 .left) (c .before .before .copy-at .ensures)
+returns-2 c = search hands-all
 
 pub probe-handed-spec : {M : Type 1} → statement M
 probe-handed-spec =

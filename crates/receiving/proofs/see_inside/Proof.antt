@@ -1,15 +1,11 @@
 -- `receiving::see_inside` meets its contract: the part lies in the unit, and is seen. Assumes nothing.
-use native.Mathlib.Omega.{arith}
-use Rattle.receiving.proofs.Leaves.{end-low, part-long, seen-part}
+use Rattle.receiving.proofs.Leaves.{end-counted, end-within, part-long, seen-part}
 use borrow.Author.Needs.{needs}
 use Rattle.receiving.proofs.see_inside.Statement.{statement}
 use Rattle.receiving.proofs.see_inside.Tie as tie
 
 add-end : tie.Need-add-end
-add-end c =
-    let a = c .before .before .before in
-    let l = end-low (a .args .shape) (a .args .c) (a .args .unit .now) (a .pre) (c .before .if1 .taken) in
-    omega (arith, a .pre .fit .two, a .pre .fit .low)
+add-end c = search end-counted
 
 sub-see : tie.Need-sub-see
 sub-see c = search needs
@@ -18,10 +14,7 @@ part-see-start : tie.Need-part-see-start
 part-see-start c = search needs
 
 part-see-end : tie.Need-part-see-end
-part-see-end c =
-    let a = c .before .before .before in
-    let l = end-low (a .args .shape) (a .args .c) (a .args .unit .now) (a .pre) (c .before .if1 .taken) in
-    omega (arith, a .pre .low)
+part-see-end c = search end-within
 
 see-requires : tie.Need-see-requires
 see-requires c κs =

@@ -1,13 +1,11 @@
 -- `receiving::watch_both` meets its contract: what is seen of each, taken in. Assumes nothing.
-use Rattle.receiving.proofs.Leaves.{done-long, both-watched}
+use Rattle.receiving.proofs.Leaves.{done-seen, both-watched}
 use borrow.Author.Needs.{needs}
 use Rattle.receiving.proofs.watch_both.Statement.{statement}
 use Rattle.receiving.proofs.watch_both.Tie as tie
 
 see-completed-requires : tie.Need-see-completed-requires
-see-completed-requires c κs =
-    let a = c .before .before in
-    done-long (a .args .shape) (a .args .done .now) (a .pre .part .fit) (a .pre .done-is)
+see-completed-requires c κs = search done-seen
 
 see-inside-requires : tie.Need-see-inside-requires
 see-inside-requires c κs = search needs

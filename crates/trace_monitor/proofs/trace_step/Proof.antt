@@ -1,5 +1,5 @@
 -- `trace_monitor::trace_step` meets its contract: with a good message, or without. Assumes nothing.
-use Rattle.trace_monitor.specs.Trace.{traceOf}
+use Rattle.trace_monitor.proofs.Steps.{steps-good, steps-without}
 use borrow.Author.Needs.{needs}
 use Rattle.trace_monitor.proofs.trace_step.Statement.{statement}
 use Rattle.trace_monitor.proofs.trace_step.Tie as tie
@@ -14,8 +14,7 @@ with-good-requires : tie.Need-with-good-requires
 with-good-requires c κs = search needs
 
 returns : tie.Need-returns
-unfolding traceOf
-returns c = simp (← (c .before .before .before .gather .ensures), ← (c .before .before .ends-good .ensures), c .before .if1 .taken, c .with-good .ensures)
+returns c = search steps-good
 
 is-spoilt-requires : tie.Need-is-spoilt-requires
 is-spoilt-requires c κs = search needs
@@ -24,8 +23,7 @@ without-good-requires : tie.Need-without-good-requires
 without-good-requires c κs = search needs
 
 returns-2 : tie.Need-returns-2
-unfolding traceOf
-returns-2 c = simp (← (c .before .before .before .before .gather .ensures), ← (c .before .before .before .ends-good .ensures), c .before .before .if1 .left, c .before .is-spoilt .ensures, c .without-good .ensures)
+returns-2 c = search steps-without
 
 pub trace-step-spec : {M : Type 1} → statement M
 trace-step-spec =

@@ -1,5 +1,5 @@
 -- `unit_end::settled` meets its contract: the three conditions, in a normal state. Assumes nothing.
-use Rattle.unit_end.specs.Settled.{settledOf}
+use Rattle.unit_end.proofs.Formulas.{settled-are}
 use borrow.Author.Needs.{needs}
 use Rattle.unit_end.proofs.settled.Statement.{statement}
 use Rattle.unit_end.proofs.settled.Tie as tie
@@ -17,8 +17,7 @@ trace-expected-requires : tie.Need-trace-expected-requires
 trace-expected-requires c κs = search needs
 
 returns : tie.Need-returns
-unfolding settledOf
-returns c = simp (c .trace-expected .ensures, c .before .label-expected .ensures, c .before .before .none-stands .ensures, c .before .before .before .defects-of .ensures)
+returns c = search settled-are fits 20000
 
 pub settled-spec : {M : Type 1} → statement M
 settled-spec =
