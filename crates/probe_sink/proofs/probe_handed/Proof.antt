@@ -1,5 +1,4 @@
 -- `probe_sink::probe_handed` meets its contract: the container's bytes written, or nothing. Assumes nothing.
-use denote.Ref.{now}
 use borrow.Author.Needs.{needs}
 use Rattle.probe_sink.proofs.Written.{hands-none, hands-all}
 use Rattle.probe_sink.proofs.probe_handed.Statement.{statement}
