@@ -402,7 +402,7 @@ impl Load {
         let text = scripts::script(seed, units);
         let mut b = Bench::new();
         let mut card = Card::fresh();
-        let mut input = text.as_bytes();
+        let mut input = &text[..];
         let mut line = Vec::new();
         self.line = 0;
         while next_line(&mut input, &mut line).expect("it is all there") {
