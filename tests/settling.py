@@ -11,6 +11,7 @@ ones that the source says ended since the sink was fed last (containers are made
 after docs/BENCH.md, and compared by their FNV), violations, defects, calls that are refused.
 Nothing else may break. A run that drops nothing must be as the statement says, one that drops
 something must break it. The printed total must be the number of settled=0 lines since `fresh`.
+docs/SETTLING.md shows the last two units of the worst run.
 
 Where BENCH, the proved bench, is given, it must print what SECOND prints.
 """
@@ -24,6 +25,7 @@ from playing import play, read_line, refused_at_once, trace_of
 
 ROOT = os.path.dirname(os.path.dirname(os.path.abspath(__file__)))
 FOLDER = os.path.join(ROOT, "examples", "settling")
+PAGE = "docs/SETTLING.md"
 MOST = 66
 PLAIN = "-"
 RUN = "# the run"
@@ -343,6 +345,12 @@ def main():
                     break
             if len(proved) != len(printed):
                 complain(name, f"the bench prints {len(proved)} lines, the second program {len(printed)}")
+
+        if name == "worst":
+            last = [line for line in printed if line.startswith("ok ")][-2:]
+            with open(os.path.join(ROOT, PAGE), encoding="utf-8") as file:
+                if [line.strip() for line in file if line.startswith("    ok ")] != last:
+                    complain(PAGE, f"it does not show the last two units of the worst run: {' / '.join(last)}")
 
         def told(number, what, name=name):
             complain(f"{name}.bench:{number}", what)
