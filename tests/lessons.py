@@ -5,7 +5,7 @@
 
 PROGRAM with its ARGS reads a script of the bench on standard input: `target/host/second bench`, or
 `target/bin/bench`. Each lessons/NAME.bench is played and must print lessons/NAME.out; the first line
-that differs is printed with its number. Then the scripts themselves are looked at. Four comments of a
+that differs is printed with its number. Then the scripts themselves are looked at. Five comments of a
 script are read by this test:
 
     # see: WORDS          behind a command, on its line or the next: the words stand in the line that it printed last, in this order
@@ -13,8 +13,9 @@ script are read by this test:
     # row P1: ..          the unit that is fed next has the word of that row of the pointer table; ROWS says what must follow
     # not understood: ..  the next line prints `? N`; no other line may
     # Question: and # Answer:   one of each, and the same question stands in lessons/README.md
+    # Rules in docs/CARD.md: ..   one; each number in it is a rule of that page
 
-Links of lessons/README.md and docs/GLOSSARY.md must lead to files that are there, and a definition that
+lessons/README.md says of each lesson how many lines are to be typed; its minutes are an hour at most. Links of lessons/README.md and docs/GLOSSARY.md must lead to files that are there, and a definition that
 is named behind one must stand in its file.
 """
 
@@ -27,6 +28,8 @@ from playing import play, read_line, refused_at_once
 
 ROOT = os.path.dirname(os.path.dirname(os.path.abspath(__file__)))
 FOLDER = os.path.join(ROOT, "lessons")
+CARD = "docs/CARD.md"
+HOUR = 60  # minutes for all of them
 PAGES = ("lessons/README.md", "docs/GLOSSARY.md")
 PRINTING = ("src", "sink", "show", "payload", "cat", "lookup", "list", "parity", "check", "read")
 SETTINGS = ("tx", "rx")
@@ -169,8 +172,19 @@ def look_at_questions(lesson, page, fault):
     for line in lesson.script:
         if line.startswith("# Question: ") and line[len("# Question: "):] not in page:
             fault("lessons/README.md", f"the question of {lesson.name} is not there: {line}")
-    if f"]({lesson.name}.bench)" not in page:
-        fault("lessons/README.md", f"{lesson.name}.bench is not linked")
+    typed = sum(bool(read_line(line)[0]) for line in lesson.script)
+    if f"]({lesson.name}.bench) | [out]({lesson.name}.out) | {typed} |" not in page:
+        fault("lessons/README.md", f"{lesson.name}.bench is not linked with its .out and its {typed} lines to type")
+
+
+def look_at_rules(lesson, card, fault):
+    """The rules that a lesson names are there."""
+    named = [line for line in lesson.script if line.startswith(f"# Rules in {CARD}: ")]
+    if len(named) != 1:
+        fault(f"{lesson.name}.bench", "there is not one line with its rules")
+    for number in re.findall(r"\d+\.\d+", " ".join(named)):
+        if f'<a id="r{number.replace(".", "-")}">' not in card:
+            fault(f"{lesson.name}.bench", f"{CARD} has no rule {number}")
 
 
 def look_at_strange_lines(lesson, fault):
@@ -337,12 +351,16 @@ def main():
     for name in sorted(scripts ^ kept):
         fault(name, "a script without its .out, or the other way round")
     lessons = [lesson_of(program, name, fault) for name in sorted(scripts & kept)]
-    pages = {page: read(page).decode() for page in PAGES}
+    pages, card = {page: read(page).decode() for page in PAGES}, read(CARD).decode()
     for lesson in lessons:
         look_at_claims(lesson, fault)
         look_at_strange_lines(lesson, fault)
         look_at_questions(lesson, pages[PAGES[0]], fault)
+        look_at_rules(lesson, card, fault)
     look_at_rows(lessons, pages[PAGES[0]], fault)
+    minutes = sum(int(said) for said in re.findall(r"^\*\*.*\*\* \((\d+)\)$", pages[PAGES[0]], re.MULTILINE))
+    if not 0 < minutes <= HOUR:
+        fault(PAGES[0], f"the lessons take {minutes} minutes")
     by_name = {lesson.name: lesson for lesson in lessons}
     for name, look in ((STEPS, look_at_steps), (TOGETHER, look_at_together), (MOST, look_at_most), (NOTHING, look_at_nothing)):
         if name in by_name:
