@@ -147,14 +147,17 @@ def commands(script):
 # ---- the comments that are read
 
 def look_at_claims(lesson, fault):
-    """`# see:` is true of what was printed last: by the command before it on its line, or by any before it."""
+    """`# see:` is true of the line that the command before it printed last."""
+    command = None  # the number of its line
     for number, line in enumerate(lesson.script, 1):
         words, comment = read_line(line)
+        if words:
+            command = number
         if not comment.startswith("# see:"):
             continue
-        before = [one for one in lesson.shown if (one.number == number if words else one.number < number)]
+        before = [one for one in lesson.shown if one.number == command]
         if not before:
-            fault(f"{lesson.name}.bench:{number}", "nothing was printed that could be seen here")
+            fault(f"{lesson.name}.bench:{number}", "the command before it printed nothing")
             continue
         last = before[-1].lines[-1]
         words = iter(part for word in last.split() for part in (word.split(",") if word.startswith("c=") else [word]))
