@@ -15,8 +15,9 @@ script are read by this test:
     # Question: and # Answer:   one of each, and the same question stands in lessons/README.md
     # Rules in docs/CARD.md: ..   one; each number in it is a rule of that page
 
-lessons/README.md says of each lesson how many lines are to be typed; its minutes are an hour at most. Links of lessons/README.md and docs/GLOSSARY.md must lead to files that are there, and a definition that
-is named behind one must stand in its file.
+lessons/README.md says of each lesson how many lines there are to type, and its minutes are an hour at
+most. Links of lessons/README.md and docs/GLOSSARY.md must lead to files that are there, and a
+definition that is named behind one must stand in its file.
 """
 
 import os
