@@ -429,13 +429,13 @@ class Fed:
     origin    "unit" for one that the source wrote, "ones" or "zeros" for a line of FF or of 00
     sent      for a unit of the source: what the source printed
     touched   what was done to it since it was fed before: names and words of `word`, `xor`, `len`
-    again     how often it was fed before
+    again     how often it was fed before; and `taken`, how often the sink did not refuse it
     length    in bytes; and `word`, its pointer word, None on a line of fewer than four bytes
     """
 
     def __init__(self, origin, length=UNIT, word=(0, 0)):
         self.origin, self.length, self.bytes = origin, length, list(word)
-        self.sent, self.touched, self.again = None, [], 0
+        self.sent, self.touched, self.again, self.taken = None, [], 0, 0
 
     @property
     def word(self):
@@ -443,7 +443,7 @@ class Fed:
 
     def copy(self):
         other = Fed(self.origin, self.length, self.bytes)
-        other.sent, other.touched, other.again = self.sent, list(self.touched), self.again
+        other.sent, other.touched, other.again, other.taken = self.sent, list(self.touched), self.again, self.taken
         return other
 
 
@@ -530,7 +530,7 @@ class Pairing:
         elif name == "len":
             self.lengthen(given["length"])
         elif name == "sink":
-            wire.again, wire.touched = wire.again + 1, []
+            wire.again, wire.taken, wire.touched = wire.again + 1, wire.taken + (said[0].kind == "ok"), []
         if name in ("word", "xor", "len"):
             wire.touched.append((name, given))
 
