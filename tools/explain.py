@@ -68,11 +68,11 @@ class Words:
 
     def __init__(self):
         self.refusals = {int(number): (wrong, to_do) for number, wrong, to_do, _ in rows_of("docs/REFUSALS.md", "| No. | What is wrong | What to do | Given by |")}
-        self.names, self.testers = {}, {}
+        self.names, self.testers, self.meanings = {}, {}, {}
         for ours, tester, words in rows_of("docs/GLOSSARY.md", "| Ours | On a tester | In words |"):
             for name in ours.split(", "):
                 self.testers[name] = tester.split(", ")[0]
-                self.names[name] = words.split(":")[0]
+                self.names[name], self.meanings[name] = words.split(":")[0], words
 
     def tester(self, name):
         """`cTIM (HP-TIM)`; a name that the glossary has not stands alone."""
@@ -256,7 +256,8 @@ class Teller:
 
     def __init__(self, words, brief=False, by_line=False):
         self.words, self.brief, self.by_line = words, brief, by_line
-        self.items, self.fold, self.gap, self.title, self.line = [], None, False, None, None
+        self.items, self.fold, self.title, self.line = [], None, None, None
+        self.gap = self.begun = False  # an empty line before what comes; and whether anything was told
         self.units = self.settled = self.refused = self.strange = 0
         self.named = []  # refusals in words up to now
         self.since = None  # the first unit of those that ended settled up to now
@@ -280,9 +281,9 @@ class Teller:
 
     def item(self, kind, text):
         self.flush()
-        if self.gap and self.items and kind == "comment":
+        if self.gap and self.begun and kind == "comment":
             self.items.append(Item("gap", ""))
-        self.gap = False
+        self.gap, self.begun = False, True
         self.items.append(Item(kind, text))
 
     def say(self, text, brief=None):
@@ -358,7 +359,7 @@ class Teller:
 
     def not_understood(self, step):
         self.strange += 1
-        self.item("warn", f"line {step.line.number} is not understood (? {step.line.number}) and skipped: `{step.line.shown()}`. {step.why[0].upper()}{step.why[1:]}.")
+        self.item("warn", f"line {step.line.number} is not understood (? {step.line.number}) and skipped, `{step.line.shown()}`: {step.why}")
 
     # -- refusals
 
@@ -746,6 +747,7 @@ def wrapped(item, width):
         first, rest = "    ", "      "
     if item.kind == "comment":
         rest = "# "
+        width = width if sys.stdout is not None and sys.stdout.isatty() else 0  # elsewhere it stands as it stands
     if width <= 0 or len(first + text) <= width:
         lines = [first + text]
     else:
@@ -764,7 +766,7 @@ def coloured(stream):
     return stream is not None and stream.isatty() and "NO_COLOR" not in os.environ and os.environ.get("TERM", "dumb") != "dumb"
 
 
-COLOURS = {"comment": "2", "warn": "33", "end": "1"}
+COLOURS = {"comment": "2", "raw": "2", "warn": "33", "echo": "1", "end": "1"}
 
 
 class Writer:
@@ -808,10 +810,10 @@ def start(command, stdin):
         raise script.Fault(f"{command[0]} cannot be run: {error}") from None
 
 
-def stop(bench):
-    """Waits for a bench that has nothing more to read or to say; one that goes on is ended."""
+def stop(bench, seconds):
+    """Waits for a bench; one that goes on is ended."""
     try:
-        bench.wait(5)
+        bench.wait(seconds)
     except subprocess.TimeoutExpired:
         bench.kill()
         bench.wait()
@@ -881,9 +883,11 @@ def told(asked):
             bench = start(command, file)
         try:
             explain(lines, texts(bench.stdout), teller, write)
-        finally:
-            bench.stdout.close()
-            stop(bench)
+        except script.Fault as fault:
+            stop(bench, 1)
+            raise script.Fault(f"{command[0]} ended with {bench.returncode}; {fault}" if bench.returncode > 0 else str(fault)) from None
+        finally:  # nobody reads any more
+            stop(bench, 5 if sys.exc_info()[0] is None else 0)
         if bench.returncode:
             raise script.Fault(f"{command[0]} ended with {bench.returncode}")
 
@@ -898,8 +902,10 @@ def quietly(main, name):
             sys.stdout.flush()
     except script.Fault as fault:
         sys.exit(f"{name}: {fault}")
-    except BrokenPipeError:
+    except OSError as error:
         os.dup2(os.open(os.devnull, os.O_WRONLY), 1)  # so that the end of the program has somewhere to flush to
+        if not isinstance(error, BrokenPipeError):
+            sys.exit(f"{name}: cannot be written: {error}")
     except KeyboardInterrupt:
         sys.exit(130)
 

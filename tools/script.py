@@ -28,7 +28,7 @@ class Fault(Exception):
 
 def clean(text):
     """Text that can be shown on any terminal: what is not printable is a question mark."""
-    return "".join(c if c.isprintable() else "?" for c in text)
+    return "".join(c if c.isprintable() and c != "\ufffd" else "?" for c in text)
 
 
 def shown(data, most=60):
