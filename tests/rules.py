@@ -141,30 +141,25 @@ CELL_OF = {"definition": 1, "function": 2, "theorem": 2, "edit": 3, "case": 3}
 
 # ---- the card
 
-def before(number):
-    """The number before this one in its section."""
-    return number[0], number[1] - 1
-
-
 def rule_at(line, number, section, last, faults):
     """The number of the rule that a line begins with, as it must be behind the last one; nothing where it has none."""
     found = RULE.match(line)
     if not found:
-        faults.add(number, 'an item of a list, or a row under Rule, begins with its number, <a id="rS-N">S.N</a>, and has words behind it', CARD)
+        faults.add(number, f"'{line[:30]}': an item of a list, or a row under Rule, begins with its number and anchor, and has words behind it", CARD)
         return None
     anchor, said = (tuple(map(int, found.group(*pair))) for pair in ((1, 2), (3, 4)))
     if anchor != said:
         faults.add(number, f"rule {said[0]}.{said[1]} has the anchor of {anchor[0]}.{anchor[1]}", CARD)
     if said[0] != section:
         faults.add(number, f"rule {said[0]}.{said[1]} stands in section {section}", CARD)
-    elif said <= last or before(said) != last and section != REFUSALS:
+    elif said[1] != last[1] + 1 and not (section == REFUSALS and said > last):
         faults.add(number, f"rule {said[0]}.{said[1]} comes behind {last[0]}.{last[1]}", CARD)
     return said
 
 
 def card(text, faults):
     """The card's sections, and its rules: each number with its place and cells."""
-    sections, rules, last, heads = [], {}, (0, 0), None
+    sections, rules, last, heads = [], {}, (0, 0), []
     for number, line in enumerate(text.split("\n"), 1):
         if line.startswith("## "):
             found = SECTION.fullmatch(line)
@@ -172,14 +167,16 @@ def card(text, faults):
                 faults.add(number, f"the heading of section {len(sections) + 1} is '## {len(sections) + 1}. ' and its words", CARD)
             sections.append(line[len("## ") :])
             last = (len(sections), 0)
-        table = line.startswith("|")
-        begins = table and heads is None
-        heads = (heads or split_row(line)[0]) if table else None
-        ruled = sections and (line.startswith("- ") or table and heads == "Rule" and not begins and not line.startswith("|--"))
+        cells = split_row(line) if line.startswith("|") else []
+        begins = cells and not heads
+        heads = cells and (heads or cells)
+        ruled = sections and (line.startswith("- ") or cells and heads[0] == "Rule" and not begins and not line.startswith("|--"))
+        if len(cells) != len(heads):
+            faults.add(number, f"a row of {len(cells)} cells under {len(heads)} headings", CARD)
         if ruled:
             said = rule_at(line, number, len(sections), last, faults)
             if said:
-                rules.setdefault("{}.{}".format(*said), Rule(number, sections[-1], split_row(line) if table else [line]))
+                rules.setdefault("{}.{}".format(*said), Rule(number, sections[-1], cells))
                 last = said
         for anchor, words in ANCHOR.findall(line)[bool(ruled) :]:
             faults.add(number, f"{words} has an anchor, and begins no item of a list and no row", CARD)
@@ -197,13 +194,16 @@ def check_refusals(rules, faults):
 
 
 def check_pointers(rules, faults):
-    """The rows P1 to P12 are those of the theorem: offset, word, how it is taken, and the offset then."""
+    """The table of pointer words has the rows of the theorem: offset, word, how it is taken, and the offset then."""
     table = names.ROOT / names.theorems()["pointer/proofs/Table.rows"].file
-    for n, (offset, word, taken, leads) in enumerate(PROVED.findall(names.text_of(table)), 1):
+    proved = PROVED.findall(names.text_of(table))
+    ruled = [rule for number, rule in rules.items() if number.startswith(f"{POINTERS}.") and rule.cells]
+    if len(ruled) != len(proved) or not proved:
+        faults.add(None, f"{len(ruled)} rows of the pointer table, and {len(proved)} that are proved ({names.shown(table)})", CARD)
+    for n, (rule, (offset, word, taken, leads)) in enumerate(zip(ruled, proved), 1):
         wanted = [f"P{n}", offset, word.upper(), TAKEN.get(taken, taken.lower()), leads]
-        rule = rules.get(f"{POINTERS}.{n}")
-        if not rule or len(rule.cells) != 6 or [cell.split(end)[0] for cell, end in zip(rule.cells[1:], (" ", " ", ",", ":", " "))] != wanted:
-            faults.add(rule and rule.line, f"rule {POINTERS}.{n} should say {', '.join(wanted)}, as it is proved", CARD)
+        if [re.split("[,:]", cell)[0] for cell in rule.cells[1:]] != wanted:
+            faults.add(rule.line, f"the row should say {', '.join(wanted)}, as it is proved", CARD)
 
 
 def check_named(rules, faults):
