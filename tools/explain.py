@@ -312,14 +312,23 @@ class Teller:
 
     def step(self, step):
         if step.line is not self.line:
-            if self.by_line:
-                self.flush()
+            self.line_end()
             self.line = step.line
-            self.comment(step.line)
+            if step.line.name == "":
+                self.comment(step.line)
         getattr(self, {"?": "not_understood", "": "nothing"}.get(step.name, f"do_{step.name}"))(step)
+
+    def line_end(self):
+        """Behind a line of the script: a comment that stood behind its command is told after what the command did."""
+        line, self.line = self.line, None
+        if self.by_line:
+            self.flush()
+        if line is not None and line.name != "" and line.comment is not None:
+            self.comment(line)
 
     def end(self):
         """What is left to tell, and the sum of it."""
+        self.line_end()
         self.flush()
         self.unfed()
         if self.units or self.refused or self.strange:
@@ -344,7 +353,7 @@ class Teller:
 
     def comment(self, line):
         if line.comment is None:
-            self.gap = self.gap or line.name == ""
+            self.gap = True
             return
         text = line.comment.lstrip("#").strip()
         if self.brief:

@@ -217,16 +217,18 @@ def understand(words):
 
 
 class Line:
-    """A line of a script. `name` is "" where it has no word, None where its form is not understood; `why` then says why."""
+    """A line of a script. `name` is "" where it has no word, None where its form is not understood; `why` then says why.
+    `command` is its text without the comment."""
 
     def __init__(self, number, text, raw_length):
-        self.number, self.text = number, text
+        self.number, self.text, self.command = number, text, text.strip(b" ")
         self.words, self.comment, self.name, self.given, self.why = [], None, "", {}, None
         try:
             if raw_length > LONGEST:
                 raise Wrong(f"it has {raw_length} bytes, and a line has at most {LONGEST}")
             self.words, comment = split(text)
             if comment is not None:
+                self.command = text[: len(text) - len(comment)].strip(b" ")
                 self.comment = clean(comment.decode("utf-8", errors="replace"))
             if self.words:
                 self.name, self.given = understand(self.words)
