@@ -28,7 +28,7 @@ class Fault(Exception):
 
 def clean(text):
     """Text that can be shown on any terminal: what is not printable is a question mark."""
-    return "".join(c if c.isprintable() else "?" for c in text)
+    return "".join(c if c.isprintable() and c != "\ufffd" else "?" for c in text)
 
 
 def shown(data, most=60):
@@ -217,16 +217,18 @@ def understand(words):
 
 
 class Line:
-    """A line of a script. `name` is "" where it has no word, None where its form is not understood; `why` then says why."""
+    """A line of a script. `name` is "" where it has no word, None where its form is not understood; `why` then says why.
+    `command` is its text without the comment."""
 
     def __init__(self, number, text, raw_length):
-        self.number, self.text = number, text
+        self.number, self.text, self.command = number, text, text.strip(b" ")
         self.words, self.comment, self.name, self.given, self.why = [], None, "", {}, None
         try:
             if raw_length > LONGEST:
                 raise Wrong(f"it has {raw_length} bytes, and a line has at most {LONGEST}")
             self.words, comment = split(text)
             if comment is not None:
+                self.command = text[: len(text) - len(comment)].strip(b" ")
                 self.comment = clean(comment.decode("utf-8", errors="replace"))
             if self.words:
                 self.name, self.given = understand(self.words)
@@ -429,13 +431,13 @@ class Fed:
     origin    "unit" for one that the source wrote, "ones" or "zeros" for a line of FF or of 00
     sent      for a unit of the source: what the source printed
     touched   what was done to it since it was fed before: names and words of `word`, `xor`, `len`
-    again     how often it was fed before
+    again     how often it was fed before; and `taken`, how often the sink did not refuse it
     length    in bytes; and `word`, its pointer word, None on a line of fewer than four bytes
     """
 
     def __init__(self, origin, length=UNIT, word=(0, 0)):
         self.origin, self.length, self.bytes = origin, length, list(word)
-        self.sent, self.touched, self.again = None, [], 0
+        self.sent, self.touched, self.again, self.taken = None, [], 0, 0
 
     @property
     def word(self):
@@ -443,7 +445,7 @@ class Fed:
 
     def copy(self):
         other = Fed(self.origin, self.length, self.bytes)
-        other.sent, other.touched, other.again = self.sent, list(self.touched), self.again
+        other.sent, other.touched, other.again, other.taken = self.sent, list(self.touched), self.again, self.taken
         return other
 
 
@@ -530,7 +532,7 @@ class Pairing:
         elif name == "len":
             self.lengthen(given["length"])
         elif name == "sink":
-            wire.again, wire.touched = wire.again + 1, []
+            wire.again, wire.taken, wire.touched = wire.again + 1, wire.taken + (said[0].kind == "ok"), []
         if name in ("word", "xor", "len"):
             wire.touched.append((name, given))
 
