@@ -1234,7 +1234,12 @@ impl Script {
             _ => hex(&sixteen).into_bytes(),
         };
         let label = if self.chance(4) { self.of(&[0x00, 0xFF]) } else { self.label };
-        if self.chance(2) {
+        if self.chance(8) {
+            // no blank behind the second quote
+            let word = quoted(&sixteen[1 + from.min(14)..]);
+            let (name, behind) = self.of(&[("tx", "0 0"), ("tx", "0 0 # x"), ("rx", "3"), ("rx", "#3"), ("rx", "\t3")]);
+            self.say([format!("{name} {label:02X} ").as_bytes(), &word, behind.as_bytes()].concat());
+        } else if self.chance(2) {
             let behind = self.of(&["0 0", "8 1", "9 0", "255 1"]);
             self.tx_word(label, &word, behind);
         } else {
