@@ -272,6 +272,7 @@ class Teller:
         self.run, self.value = 0, None  # equal words in a row, and their value
         self.waiting = []  # units sent and not fed: texts
         self.no_source = None  # the refusal, where the source had nothing for the line since it was fed
+        self.told_source = None  # and the one that was told last, with its line
         self.sent, self.asked = None, "-"  # of the unit on the line: what the source printed, and what was asked of it
         self.lengths = {"held": CONTAINER, "done": CONTAINER}
         self.handed = self.ever_settled = False
@@ -368,7 +369,7 @@ class Teller:
 
     def not_understood(self, step):
         self.strange += 1
-        self.item("warn", f"line {step.line.number} is not understood (? {step.line.number}) and skipped, `{step.line.shown()}`: {step.why}")
+        self.item("warn", f"line {step.line.number} is not understood (? {step.line.number}) and skipped, `{step.line.shown(24 if self.brief else 60)}`: {step.why}")
 
     # -- refusals
 
@@ -460,12 +461,12 @@ class Teller:
         turns = step.turn > 0  # of `run`: told with its unit
         if said.kind == "refused":
             text = f"{said['call']} refused {said['number']}"
-            if not (turns and step.turn > 1 and self.no_source == text):
+            if not turns or self.told_source != (step.line, text):  # of one `run` once, and then with each unit
                 detail = self.settings_detail(said["number"], self.tx) if said["call"] == "container" else None
                 self.refuse(said["call"], said, detail)
             else:
                 self.refused += 1
-            self.no_source = text
+            self.no_source, self.told_source = text, (step.line, text)
             if said["call"] == "unit":
                 self.length = script.UNIT
             return

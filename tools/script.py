@@ -70,7 +70,7 @@ def split(text):
                     break
                 end += 2
             if text[end + 1 : end + 2] not in (b"", b" "):
-                raise Wrong("behind the quote that closes a trace there must be a blank or the line's end (a quote inside a trace is written twice)")
+                raise Wrong("behind a closing quote comes a blank or the line's end (a quote in a trace is written twice)")
             word = Word(text[place : end + 1])
             word.quoted = text[place + 1 : end].replace(b'""', b'"')
             words.append(word)
@@ -104,24 +104,25 @@ def number(least, most):
 
 def digits(word, what):
     unquoted(word, what)
-    if not re.fullmatch(rb"[0-9A-Fa-f]*", word):
-        raise Wrong(f"{what}: {shown(word)} is not written in hex digits")
+    wrong = re.search(rb"[^0-9A-Fa-f]", word)
+    if wrong:
+        raise Wrong(f"{what}: {shown(wrong.group())} in {shown(word, 24)} is no hex digit")
     if len(word) % 2:
-        raise Wrong(f"{what}: {shown(word)} has an odd number of hex digits, and a byte has two")
+        raise Wrong(f"{what}: {shown(word, 24)} has {len(word)} hex digits, and a byte has two")
     return bytes.fromhex(word.decode("ascii"))
 
 
 def byte(word, what):
     data = digits(word, what)
     if len(data) != 1:
-        raise Wrong(f"{what}: {shown(word)} is not one byte of two hex digits")
+        raise Wrong(f"{what}: {shown(word, 24)} is not one byte of two hex digits")
     return data[0]
 
 
 def pointer_word(word, what):
     data = digits(word, what)
     if len(data) != 2:
-        raise Wrong(f"{what}: {shown(word)} is not four hex digits")
+        raise Wrong(f"{what}: {shown(word, 24)} is not four hex digits")
     return int.from_bytes(data, "big")
 
 
@@ -201,7 +202,7 @@ def understand(words):
     least = len(asked) - (BYTES in asked)
     if not least <= len(given) <= len(asked):
         text = f"{name} stands alone" if not asked else f"{form(name)} has {len(asked)} word{'s' if len(asked) > 1 else ''} behind {name}"
-        text += f", and here {'are' if len(given) != 1 else 'is'} {len(given) or 'none'}"
+        text += f", and here {'are' if len(given) > 1 else 'is'} {len(given) or 'none'}"
         if any(written == "TRACE" for _, written, _ in asked) and len(given) > len(asked) and all(word.quoted is None for word in given):
             text += "; a trace with blanks in it needs double quotes"
         raise Wrong(text)

@@ -1,0 +1,839 @@
+#!/usr/bin/env python3
+"""The words for bench runs: tools/explain.py, tools/desk, tools/script.py, and the pages that the words are taken from.
+
+    tests/explain.py PROGRAM [ARGS..]     PROGRAM plays a bench script from its standard input.
+
+Every script under lessons and examples is played, and so are random lines. What was printed is read here once more, and each sentence is
+held to it: every unit has exactly one; its causes, defects, actions, containers, violations, offsets and whether it settled are those of
+the printed line; every refusal has the words of docs/REFUSALS.md, every `? N` its line; comments stand in their order. Each refusal that the
+bench can give is given by a script; 2 and 8, which it cannot give, are told from lines made up here. The bytes that the words name on
+the line are held to what damage to them does. docs/REFUSALS.md, docs/GLOSSARY.md and include/card.h must have the same words, and
+docs/CARD.md the same orders. A desk must say what explain says. Last, spoiled words and spoiled lines must be found out by these checks.
+"""
+
+import os
+import random
+import re
+import select
+import subprocess
+import sys
+import tempfile
+import time
+
+sys.dont_write_bytecode = True  # no folder beside the tests
+ROOT = os.path.dirname(os.path.dirname(os.path.abspath(__file__)))
+sys.path.insert(0, os.path.join(ROOT, "tools"))
+import explain
+import script as scripts
+from playing import play, read_line, run, trace_of
+
+EXPLAIN, DESK = os.path.join(ROOT, "tools", "explain.py"), os.path.join(ROOT, "tools", "desk")
+# The names on a tester, and the orders of refusals, written down once more.
+TESTERS = {"AIS": "AU-AIS", "LOP": "AU-LOP", "SSF": "HP-SSF", "UNEQ": "HP-UNEQ", "TIM": "HP-TIM", "RDI": "HP-RDI", "PLM": "HP-PLM"}
+ORDERS = {
+    "container source": [8, 4, 5, 2, 3, 6],
+    "unit source": [8, 3, 1, 7],
+    "sink": [8, 4, 5, 1, 3],
+    "payload call": [3, 2],
+    "settings check": [4, 5],
+    "catalogue check": [9, 10, 11, 4, 5, 12, 13],
+    "lookup": [9, 10, 11, 4, 5, 12, 13, 14],
+    "listing": [9, 10, 11, 4, 5, 12, 13],
+    "tx": [4, 5, 6],
+    "rx": [4, 5],
+}
+NUMBERS = {"no": 0, "one": 1, "two": 2}
+MOST_BRIEF = 40  # lines of a lesson in its brief form, on a projector
+LONGEST_BRIEF = 180  # characters of one of them before it is wrapped
+SHOWN = 8  # faults of one thing
+
+failures = {}
+checked = {"units": 0, "sentences": 0, "refusals": 0, "strange": 0, "runs": 0}
+
+
+def fault(what, text):
+    failures.setdefault(what, []).append(text)
+    if len(failures[what]) <= SHOWN:
+        print(f"explain.py: {what}: {text}")
+
+
+def read(path):
+    try:
+        with open(os.path.join(ROOT, path), "rb") as file:
+            return file.read()
+    except OSError as error:
+        sys.exit(f"explain.py: {error}")
+
+
+# ---------------------------------------------------------------------------
+# The pages
+# ---------------------------------------------------------------------------
+
+
+def refusals_of(page):
+    """Rows of docs/REFUSALS.md: number, what is wrong, what to do, who gives it."""
+    return {int(number): (wrong, to_do, calls) for number, wrong, to_do, calls in re.findall(r"^\| (\d+) \| (.+?) \| (.+?) \| (.+?) \|$", page, re.MULTILINE)}
+
+
+def numbers_in(text):
+    return [int(number) for number in re.findall(r"\d+", text)]
+
+
+def look_at_pages(refusals_page, glossary, header, card, fault):
+    refusals = refusals_of(refusals_page)
+    if list(refusals) != list(range(1, 15)):
+        fault("REFUSALS.md", f"the numbers are {list(refusals)}")
+    # the same words in the glossary and in the header
+    table = dict(re.findall(r"^\| (\d+) \| ([^|]+?) \|$", glossary, re.MULTILINE))
+    comment = next((text for text in re.findall(r"/\*(.*?)\*/", header, re.DOTALL) if "refusals of the card's calls" in text), "")
+    listed = re.findall(r"^ {4,5}(\d+) {2}(.*?)(?=^ {4,5}\d+ {2}|\Z)", re.sub(r"^ \* ?", "", comment, flags=re.MULTILINE), re.DOTALL | re.MULTILINE)
+    in_header = {number: " ".join(text.split()) for number, text in listed}
+    for number, (wrong, _, _) in refusals.items():
+        if table.get(str(number)) != wrong:
+            fault("GLOSSARY.md", f"refusal {number} is `{table.get(str(number))}`, and in REFUSALS.md `{wrong}`")
+        if in_header.get(str(number)) != wrong.replace("`", ""):
+            fault("card.h", f"refusal {number} is `{in_header.get(str(number))}`, and in REFUSALS.md `{wrong}`")
+    for name, found in (("GLOSSARY.md", table), ("card.h", in_header)):
+        if len(found) != len(refusals):
+            fault(name, f"it has {len(found)} refusals")
+    long = [line for line in comment.split("\n") if len(line) > 79]
+    if long or not comment:
+        fault("card.h", f"no comment on refusals, or lines of more than 79 characters: {long}")
+    # orders, and who gives a number
+    orders = dict(re.findall(r"^\| (?:`?)([a-z ]+?)(?:`?) \| ([^|]*?) \| [^|]*\|$", refusals_page, re.MULTILINE))
+    check = numbers_in(orders.get("catalogue check", ""))
+    for call, order in ORDERS.items():
+        text = orders.get(call, "")
+        found = numbers_in(text)
+        if text.startswith("as the catalogue check"):
+            found = check + found
+        if found != order:
+            fault("REFUSALS.md", f"the order of {call} is {found}, not {order}")
+        for number, (_, _, given) in refusals.items():
+            if (number in order) != (call in [each.strip("` ") for each in given.split(",")]):
+                fault("REFUSALS.md", f"refusal {number} is given by `{given}`, and the order of {call} is {order}")
+    # the card's rules have the same orders
+    for call, text in re.findall(r"\| <a id=\"r13-\d+\">[\d.]+</a> \| ([a-z ]+) \| ([^|]*) \|", card):
+        found = numbers_in(text.replace("as the catalogue check", " ".join(map(str, ORDERS["catalogue check"]))))
+        if found != ORDERS.get(call):
+            fault("CARD.md", f"the order of {call} is {found}, and in REFUSALS.md {ORDERS.get(call)}")
+    # the tester's names, and the rules that the glossary names
+    for line in glossary.split("\n"):
+        found = re.match(r"\| ((?:[cd][A-Z]+(?:, )?)+) \| ([A-Z]+-[A-Z]+)[^|]*\| ([^|:]+: [^|]+) \|$", line)
+        for name in found.group(1).split(", ") if found else []:
+            if TESTERS.get(name[1:]) != found.group(2):
+                fault("GLOSSARY.md", f"{name} is {found.group(2)} on a tester, not {TESTERS.get(name[1:])}")
+    for name in [f"c{name}" for name in TESTERS] + ["dUNEQ", "dTIM", "dPLM", "dRDI"]:
+        if not re.search(rf"^\| [^|]*\b{name}\b[^|]* \| {TESTERS[name[1:]]}\b", glossary, re.MULTILINE):
+            fault("GLOSSARY.md", f"{name} has no tester's name")
+    for shown, section, rule in re.findall(r"\[(\d+\.\d+)\]\(CARD\.md#r(\d+)-(\d+)\)", glossary):
+        if shown != f"{section}.{rule}" or f'<a id="r{section}-{rule}">' not in card:
+            fault("GLOSSARY.md", f"there is no rule {shown} in CARD.md, or the link leads to another")
+    if not re.search(r"CARD\.md#r", glossary) or "In 01" in glossary:
+        fault("GLOSSARY.md", "its words have no rules of CARD.md")
+    return refusals
+
+
+# ---------------------------------------------------------------------------
+# A run, and its sentences
+# ---------------------------------------------------------------------------
+
+
+class Unit:
+    """A printed `ok` line, read here once more."""
+
+    def __init__(self, text):
+        fields = dict(each.split("=", 1) for each in text.split(" ")[1:] if not each.startswith("c="))
+        containers = re.findall(r" c=[DU]@\d+,[0-9A-F]{8},v=(\d+),(?:p=[0-9A-F]{2},)?fe=(\d+)", text)
+        self.state, self.offset, self.ended = fields["st"], fields["off"], int(fields["ended"])
+        self.violations, self.returned = (sum(int(pair[k]) for pair in containers) for k in (0, 1))
+        self.ssf, self.ais, self.rdi, self.settled = (fields[name] == "1" for name in ("ssf", "ais", "rdi", "settled"))
+        self.total = int(fields["total"])
+        self.defects, self.causes = ([] if fields[name] == "-" else fields[name].split(",") for name in ("d", "cause"))
+
+
+NOTHING_BEFORE = Unit("ok st=lost off=- held=0 ended=0 ssf=0 tsf=0 ais=0 rdi=0 d=- cause=- settled=0 total=0")
+HEAD = re.compile(r"(units?) (\d+)(?: (and|to) (\d+))?(, the same line again|, one line fed (?:twice|\d+ times))?: (.*)")
+REFUSED = re.compile(r"(container|unit|tx|rx|payload|catalogue|lookup|listing|sink) refused (\d+)((?: in record \d+)?(?:, as in record \d+)?)(?:, (\d+) times)?: (.*)")
+
+
+def number_of(word):
+    return NUMBERS[word] if word in NUMBERS else int(word)
+
+
+def sentence_faults(body, unit, before, many):
+    """What a sentence says of a unit that its printed line does not, or leaves out."""
+    wrong = []
+
+    def same(what, said, printed):
+        if said != printed:
+            wrong.append(f"{what}: said {said}, printed {printed}")
+
+    clauses = body.split("; ")
+    causes = re.findall(r"(c[A-Z]+) \(([A-Z-]+)\)", "".join(each for each in clauses if each.startswith("reported: ")))
+    same("causes", [name for name, _ in causes], unit.causes)
+    same("testers", [tester for _, tester in causes], [TESTERS[name[1:]] for name in unit.causes])
+    same("nothing reported", "nothing reported" in body, bool((unit.defects or unit.ssf) and not unit.causes))
+    same("defects set", re.findall(r" sets \((d[A-Z]+), [A-Z-]+\)", body), [name for name in unit.defects if name not in before.defects])
+    stand = re.search(r"((?:[a-z ]+\(d[A-Z]+\)(?:, | and )?)+) still stands?\b", body)
+    same("defects standing", re.findall(r"\((d[A-Z]+)\)", stand.group(1)) if stand else [], [name for name in unit.defects if name in before.defects])
+    same("defects cleared", re.findall(r" clears \((d[A-Z]+)\)", body), [name for name in before.defects if name not in unit.defects])
+    same("SSF", "server signal fail (SSF)" in body, unit.ssf)
+    # equal units that follow each other share "is sent down" with the first of them
+    same("AIS", bool(re.search(r"payload AIS is sent down|\bAIS (?:and RDI )?go(?:es)? on", body)), unit.ais)
+    same("RDI", bool(re.search(r"RDI goes to the far end|\bRDI go(?:es)? on", body)), unit.rdi)
+    ends = next((each for each in clauses if re.fullmatch(r"(?:AIS|RDI|AIS and RDI) ends?", each)), "")
+    same("AIS ends", "AIS" in ends, before.ais and not unit.ais)
+    same("RDI ends", "RDI" in ends, before.rdi and not unit.rdi)
+    # containers
+    ended = re.search(r"(?:^|; )(no|one|two) containers? (ended|each)\b", body)
+    if unit.state == "normal":
+        same("containers", number_of(ended.group(1)) if ended else None, unit.ended)
+        same("in many", ended.group(2) if ended else None, "each" if many and unit.ended else "ended")
+    else:
+        same("handed back", "nothing handed back" in body and not ended, True)
+    for name, pattern, printed in (("violations", r"(\w+) parity violations?(?:, [^;]*)? \(HP-BIP\)", unit.violations),
+                                   ("returned", r"(\w+) violations? returned by the far end(?:, [^;]*)? \(HP-REI\)", unit.returned)):
+        found = re.search(pattern, body)
+        same(name, number_of(found.group(1)) if found else 0, printed)
+    # the pointer
+    moved = re.search(r"(?:^|; )(?:increment|decrement|new data,|three equal words,|offset) (\d+) to (\d+)", body)
+    same("moved", moved.groups() if moved else None,
+         (before.offset, unit.offset) if before.state == unit.state == "normal" and before.offset != unit.offset else None)
+    if moved and moved.group().lstrip("; ").startswith(("increment", "decrement")):
+        up = (int(unit.offset) - int(before.offset)) % 783
+        same("direction", "increment" in moved.group(), up == 1)
+    found = re.search(r"the pointer is found at offset (\d+)", body)
+    same("found", found.group(1) if found else None, unit.offset if unit.state == "normal" != before.state else None)
+    for offset in re.findall(r"offset (\d+) stays|at the same offset, (\d+)", body):
+        same("stays", "".join(offset), unit.offset if before.state == "normal" and before.offset == unit.offset else None)
+    same("lost", bool(re.search(r"pointer is lost|still lost|\(lost\)", body)), unit.state == "lost")
+    same("lost now", "pointer is lost" in body, unit.state == "lost" != before.state)
+    same("alarm", bool(re.search(r"goes to alarm|still in alarm", body)), unit.state == "alarm")
+    same("plain", "plain" in clauses, "plain" in clauses and unit.state == before.state == "normal" and unit.offset == before.offset)
+    # settled
+    settled = [each for each in clauses if re.match(r"(not |no longer )?settled", each)]
+    if len(settled) != 1:
+        wrong.append(f"settled: said {settled}")
+    else:
+        same("settled", settled[0].startswith("settled"), unit.settled)
+        same("no longer", settled[0].startswith("no longer"), before.settled and not unit.settled)
+        same("no defect", "no defect stands" in settled[0], not unit.settled and unit.state == "normal" and not unit.defects)
+    first = re.search(r"settled for the first time; (\w+) units? did not", body)
+    if first:
+        same("did not settle", number_of(first.group(1)), unit.total)
+    return wrong
+
+
+def look_at_run(name, data, printed, told, refusals, fault):
+    """The sentences of a run against its script and what was printed. Counts how much was looked at."""
+    words = {number: wrong.replace("`", "") for number, (wrong, _, _) in refusals.items()}
+    lines = data.decode("utf-8", errors="replace").removeprefix("\ufeff").removesuffix("\n").split("\n") if data else []
+    units = [Unit(line) for line in printed if line.startswith("ok ")]
+    strange = {int(line[2:]) for line in printed if re.fullmatch(r"\? \d+", line)}
+    # units, in order, each in one sentence; `fresh` forgets what was before
+    place, before, freshes = 0, NOTHING_BEFORE, 0
+    for text in told:
+        if text.startswith("fresh: "):
+            before, freshes = NOTHING_BEFORE, freshes + 1
+        found = HEAD.fullmatch(text)
+        if not found:
+            continue
+        first, last = int(found[2]), int(found[4] or found[2])
+        if first != place + 1 or last < first or last > len(units) or (found[1] == "units") != (last > first) or found[3] and (found[3] == "and") != (last == first + 1):
+            fault(name, f"units {first} to {last} behind unit {place}, of {len(units)}: {text[:80]}")
+            return
+        body = re.sub(r"^nothing (?:new )?was sent[^;]*; ", "", found[6])
+        for unit in units[place:last]:
+            for each in sentence_faults(body, unit, before, last > first):
+                fault(name, f"unit {place + 1}: {each}: {text[:160]}")
+            place, before = place + 1, unit
+            checked["units"] += 1
+        checked["sentences"] += 1
+    if place != len(units):
+        fault(name, f"{place} of {len(units)} units have a sentence")
+    commands = [(number, *read_line(line)) for number, line in enumerate(lines, 1)]
+    if freshes != sum(1 for number, given, _ in commands if given == ["fresh"] and number not in strange):
+        fault(name, f"{freshes} times fresh")
+    # refusals
+    names = {"cat": "catalogue", None: "sink"}
+    given, said = {}, {}
+    for line in printed:
+        found = re.fullmatch(r"(?:(container|unit|tx|rx|payload|cat|lookup) )?refused (\d+)((?: \d+)*)", line)
+        listing = re.fullmatch(r"(\d+)((?: \d+)*)", line)
+        if found or listing:
+            key = (names.get(found[1], found[1]) if found else "listing", int(found[2] if found else listing[1]))
+            given[key] = given.get(key, 0) + 1
+    for text in told:
+        found = REFUSED.fullmatch(text)
+        if found:
+            key = (found[1], int(found[2]))
+            said[key] = said.get(key, 0) + int(found[4] or 1)
+            if not found[5].startswith(words.get(key[1], "\0")):
+                fault(name, f"not the words of refusal {key[1]}: {text[:160]}")
+    if set(given) != set(said) or any(given[key] != said[key] for key in given if key[0] not in ("container", "unit")):
+        fault(name, f"refusals printed {given}, told {said}")
+    for number in {number for _, number in given}:
+        advice = refusals[number][1].replace("`", "")
+        if not any(REFUSED.fullmatch(text) and text.endswith(advice) for text in told):
+            fault(name, f"nowhere the advice of refusal {number}")
+    checked["refusals"] += sum(given.values())
+    # lines that were not understood
+    skipped = [re.fullmatch(r"line (\d+) is not understood \(\? (\d+)\) and skipped, `(.*)`: (.+)", text, re.DOTALL) for text in told]
+    skipped = [found for found in skipped if found]
+    if [int(found[1]) for found in skipped] != sorted(strange) or any(found[1] != found[2] for found in skipped):
+        fault(name, f"not understood were {sorted(strange)}, told {[found[1] for found in skipped]}")
+    for found in skipped:
+        line = scripts.clean(lines[int(found[1]) - 1].removesuffix("\r")) if int(found[1]) <= len(lines) else None
+        if line is None or not (found[3] == line or found[3].endswith("...") and line.startswith(found[3][:-3])):
+            fault(name, f"line {found[1]} is `{line}`, told `{found[3]}`")
+    checked["strange"] += len(strange)
+    # comments, in order
+    comments = [scripts.clean(comment).rstrip() for number, _, comment in commands if comment and len(lines[number - 1].encode()) <= 100_000]
+    if [text for text in told if text.startswith("#")] != comments:
+        fault(name, "the comments are not those of the script")
+    # settings, with all blanks of a trace
+    for number, words_of, _ in commands:
+        if words_of and words_of[0] in ("tx", "rx") and number not in strange:
+            trace = trace_of(words_of[2])
+            if all(0x20 <= c <= 0x7E for c in trace):
+                text = f'{words_of[0]}: the {"source" if words_of[0] == "tx" else "sink"} is set to {"expect " if words_of[0] == "rx" else ""}label {words_of[1].upper()}'
+                if not any(each.startswith(text) and f'trace "{trace.decode()}"' in each for each in told):
+                    fault(name, f"line {number} has no words with the whole trace")
+    for text in told:
+        if re.search(r"\bNone\b|[{}]|\bTraceback\b", text) and not text.startswith("#") and "`" not in text:
+            fault(name, f"odd text: {text[:100]}")
+    checked["runs"] += 1
+    return units
+
+
+def told_of(data, printed, brief=False, by_line=False):
+    """What explain says of a run, a text for each item, not wrapped."""
+    texts = []
+
+    def keep(items):
+        texts.extend(item.text.replace("\u00a0", " ") for item in items if item.kind != "gap")
+
+    explain.explain(scripts.read(data), printed, explain.Teller(explain.Words(), brief, by_line), keep)
+    return texts
+
+
+def lines_of(printed):
+    return printed.decode("utf-8", errors="replace").split("\n")[:-1]
+
+
+def look_at_script(name, data, program, refusals, fault):
+    """A script played and told; the printed lines, the sentences, and the brief form."""
+    printed = lines_of(play(program, data, name))
+    try:
+        told = told_of(data, printed)
+        each = told_of(data, printed, by_line=True)
+        brief = told_of(data, printed, brief=True)
+    except scripts.Fault as wrong:
+        fault(name, f"explain: {wrong}")
+        return printed, [], []
+    look_at_run(name, data, printed, told, refusals, fault)
+    look_at_run(f"{name} by lines", data, printed, each, refusals, fault)
+    look_at_brief(name, printed, told, brief, fault)
+    return printed, told, brief
+
+
+def look_at_brief(name, printed, told, brief, fault):
+    """The brief form has each defect that sets or clears at its unit, each move of the pointer, and little else."""
+    if any(len(text) > LONGEST_BRIEF for text in brief[1:]):
+        fault(f"{name} in brief", f"too long: {max(brief[1:], key=len)}")
+    for pattern in (r" sets \((d[A-Z]+)", r" clears \((d[A-Z]+)\)", r"(?:increment|decrement|new data,|three equal words,) (\d+ to \d+)"):
+        short = {" sets": r"(d[A-Z]+) sets", " clea": r"(d[A-Z]+) clears"}.get(pattern[:5], pattern)
+        for wanted, texts, other in ((pattern, told, short), (short, brief, pattern)):
+            for text in texts:
+                head = HEAD.fullmatch(text)
+                if head:
+                    for what in re.findall(wanted, head[6]):
+                        opposite = brief if texts is told else told
+                        if not any(found and int(found[2]) <= int(head[2]) <= int(found[4] or found[2]) and what in re.findall(other, found[6])
+                                   for found in map(HEAD.fullmatch, opposite)):
+                            fault(f"{name} in brief", f"only in one form: unit {head[2]}: {what}")
+    for number in {int(text[2:]) for text in printed if re.fullmatch(r"\? \d+", text)}:
+        if not any(text.startswith(f"line {number} is not understood") for text in brief):
+            fault(f"{name} in brief", f"line {number} is not named")
+
+
+# ---------------------------------------------------------------------------
+# Scripts made here
+# ---------------------------------------------------------------------------
+
+GOOD = "5A4D000712" + b"03E5".ljust(15).hex() + "0F"
+OTHER = "5A4D000812" + b"03E6".ljust(15).hex() + "0F"
+
+
+def record(**changed):
+    """A record with some fields changed, in hex."""
+    fields = {"mark": "5A4D", "circuit": "0009", "label": "02", "trace": b"NORD-SUED".ljust(15).hex(), "flags": "03", **changed}
+    return "".join(fields[name] for name in ("mark", "circuit", "label", "trace", "flags"))
+
+
+BAD = {9: GOOD + "00", 10: GOOD + record(mark="5A4E"), 11: GOOD + record(circuit="2710"), 4: GOOD + record(label="FF"),
+       5: GOOD + record(trace="4E6F7264" + "09" + "20" * 10), 12: GOOD + record(flags="10"), 13: GOOD + OTHER + record(trace=b"03E5".ljust(15).hex())}
+# number: scripts, and the printed line in which it is given
+GIVEN = {
+    1: [("src -\nlen 2357\nsink\n", "refused 1"), ("len 0\nsink\n", "refused 1")],
+    3: [("src -\nlens 2348 2349\nsink\n", "refused 3"), ("lens 2349 0\nsrc -\nsink\n", "refused 3")],
+    4: [('tx 00 "" 0 0\n', "tx refused 4"), ('tx ff "A" 0 0\nsrc -\n', "container refused 4"), ('rx 00 "" 0\n', "rx refused 4"), ('rx FF "A" 3\nrun 2\n', "refused 4")],
+    5: [('tx 12 "A\tB" 0 0\nsrc -\n', "tx refused 5"), ('rx 12 "\x7f" 0\nsink\n', "rx refused 5"),
+        ("rx 12 3033453500" + "20" * 10 + " 0\nsink\n", "refused 5"), ('tx 12 "a\tb" 0 0\nsrc -\n', "container refused 5")],
+    6: [('tx 12 "A" 9 0\nsrc -\n', "tx refused 6"), ('tx 12 "A" 255 1\nsrc -\n', "container refused 6")],
+    7: [("src i\nsrc -\nsrc -\nsrc d\n", "unit refused 7")],
+    14: [(f"lookup 8 {GOOD}\n", "lookup refused 14"), ("lookup 7\n", "lookup refused 14")],
+}
+for number, data in BAD.items():
+    GIVEN.setdefault(number, []).extend([(f"cat {data}\n", f"cat refused {number}"), (f"lookup 7 {data}\n", f"lookup refused {number}"), (f"list {data}\n", f"{number}")])
+# what the words must have beside those of the table, from the script's own bytes
+DETAILS = {
+    f"cat {BAD[9]}\n": "it has 22 bytes, 1 more than a whole number of records",
+    f"cat {BAD[10]}\n": "catalogue refused 10 in record 2: a record does not begin with the mark 5A 4D (it begins with 5A 4E)",
+    f"cat {BAD[11]}\n": "the number is 10000",
+    f"cat {BAD[4]}\n": "circuit 9, the label is FF",
+    f"cat {BAD[5]}\n": "circuit 9, character 5 is 09",
+    f"cat {BAD[12]}\n": "circuit 9, flags 16",
+    f"cat {BAD[13]}\n": 'catalogue refused 13 in record 3, as in record 1: two records have the same trace (circuit 9, trace "03E5           ")',
+    "src -\nlen 2357\nsink\n": "the line has 2357 bytes",
+    "src -\nlens 2348 2349\nsink\n": "held has 2348, done 2349",
+    'rx FF "A" 3\nrun 2\n': "sink refused 4, 2 times: ",
+    f"lookup 8 {GOOD}\n": "circuit 8",
+}
+# other answers: a script, and what must be said
+ANSWERS = {
+    f"cat {GOOD}{OTHER}\n": "cat: a good catalogue of two records",
+    "cat\n": "cat: a good catalogue of no record, as an empty file is",
+    f"lookup 7 {GOOD}\n": 'lookup: circuit 7 has label 12 (140 Mbit/s), trace "03E5           ", flags 15 (monitored; RDI, SSF and AIS reported)',
+    f"list {GOOD}{OTHER}\n": 'circuit 8: label 12 (140 Mbit/s), trace "03E6           ", flags 15 (monitored; RDI, SSF and AIS reported)',
+    "parity 0102\n": "parity: 03, of 2 bytes",
+    "check 8B" + b"03E5".ljust(15).hex() + "\n": 'check: a good trace message, start byte 8B, trace "03E5           "',
+    "check 8B30\n": "check: no good trace message: it has 2 bytes, and a message has 16",
+    "check 0B" + b"03E5".ljust(15).hex() + "\n": "check: no good trace message: its first byte, 0B, is no start byte: the top bit is not set",
+    "check 8B" + b"03E6".ljust(15).hex() + "\n": 'check: no good trace message: the check in the start byte 8B does not fit "03E6           "',
+    "check 8BB0" + "20" * 14 + "\n": "check: no good trace message: one of its fifteen characters has the top bit set",
+    "read 9805\n": "read: 10245: NDF enabled, SS 10, value 5",
+    "read 00\n": "read: 0: 1 byte, and a pointer word has two",
+    "payload 0\n": "payload: 2340 bytes of 2349 bytes of 00, as none was handed back yet; fingerprint",
+    "run 3\npayload 0\n": "payload: 2340 bytes of the container handed back last; fingerprint",
+    "payload 1\n": "payload: 2340 bytes of FF, as AIS was asked for; fingerprint 17FC0311",
+    "src i\nshow\n": "show: the line has 2358 bytes, pointer word 6AAA: NDF normal (0110), SS 10, value 682",
+    "len 0\nshow\n": "show: the line has 0 bytes",
+    "ones\n": "on the line: every byte is FF, as from a failed section",
+    "len 3\n": "on the line: cut from 2358 to 3 bytes",
+    "len 3\nword 6800\n": "the line has 3 bytes, and H2 is byte 3, counted from 0",
+    "len 3\nxor 3 01\n": "the line has 3 bytes, and byte 3, counted from 0, lies behind its end",
+    "len 2400\n": "on the line: lengthened with 00 from 2358 to 2400 bytes",
+    "fill aA 00\n": "held filled with AA, done with 00",
+    "lens 5 0\n": "held is now 5 bytes of AA long, done 0",
+    "word 0800\n": "on the line: H1 and H2 overwritten, the pointer word is now 0800: NDF neither (0000), SS 10, value 0",
+    "word ffff\n": "the pointer word is now FFFF: all ones, an alarm word",
+    "run 3\nword 6AAA\n": "SS 10, value 682; at offset 0 it asks for an increment",
+    "run 3\nword 6955\n": "value 341; at offset 0 it asks for a decrement",
+    'rx 12 "a ""b""#" 5\n': 'rx: the sink is set to expect label 12 (140 Mbit/s), trace "a "b"#         ", flags 5 (monitored; SSF reported)',
+    'tx 02 "A" 8 1\n': 'tx: the source is set to label 02 (TUG structure), trace "A              ", 8 violations returned in each container (HP-REI), with remote defect (RDI)',
+    "src i\nsrc -\n": "sent, and not fed to the sink: an increment, 0 to 1 (word 6AAA)",
+    "sink\n": "unit 1: nothing was sent: the line is all 00; ",
+    "run 80\n": "In all 80 units: 17 settled, 63 did not; settled from unit 64 on",
+    'tx 00 "" 0 0\nrun 3\n': "units 1 to 3, one line fed 3 times: nothing new was sent (container refused 4); ",
+    'tx 12 03E5 0 0\n': 'has no quotes; as a name it is written "03E5"',
+    "snik\n": "snik is no command; sink is one",
+    "SINK\n": "SINK is no command; sink is one",
+    "run 0\n": "N: 0 is not from 1 to 9999",
+    "sink\tx\n": "a TAB is no blank",
+    'rx 12 "A 3\n': "a double quote opens a trace, and no quote closes it",
+    'rx 12 "1234567890123456" 3\n': "has 16 characters, and a trace has at most 15",
+    "rx 12 NORD SUED 3\n": "a trace with blanks in it needs double quotes",
+    "xor 2358 01\n": "byte 2358, counted from 0, lies behind its end",
+    "cat 5A4D0z\n": "HEX: z in 5A4D0z is no hex digit",
+    "cat 5A4\n": "HEX: 5A4 has 3 hex digits, and a byte has two",
+    "# " + "x" * 100_000 + "\n": "it has 100002 bytes, and a line has at most 100000",
+}
+
+
+def look_at_refusals(program, refusals, fault):
+    """Each number that the bench can give, and every form of line that it prints or damages."""
+    seen = set()
+    for number, tried in sorted(GIVEN.items()):
+        for text, wanted in tried:
+            name = f"refusal {number}: {text.strip()[:40]!r}"
+            printed, told, _ = look_at_script(name, text.encode(), program, refusals, fault)
+            if not any(line == wanted or line.startswith(wanted + " ") for line in printed):
+                fault(name, f"the bench does not print `{wanted}`: {printed[-1:]}")
+            seen.add(number)
+            if text in DETAILS and not any(DETAILS[text] in each for each in told):
+                fault(name, f"nowhere `{DETAILS[text]}`: {told[-2:]}")
+    # no bench gives these: its payloads have the right length, and its states are the card's own
+    for number, made in ((2, ["container refused 2"]), (8, ["container refused 8"])):
+        told = told_of(b"src -\n", made)
+        look_at_run(f"refusal {number}, made up", b"src -\n", made, told, refusals, fault)
+        look_at_run(f"refusal {number}, made up", b"sink\n", [f"refused {number}"], told_of(b"sink\n", [f"refused {number}"]), refusals, fault)
+        seen.add(number)
+    if seen != set(refusals):
+        fault("refusals", f"tried were {sorted(seen)}")
+    for text, wanted in ANSWERS.items():
+        name = f"answer to {text.strip()[:40]!r}"
+        _, told, _ = look_at_script(name, text.encode(), program, refusals, fault)
+        if not any(wanted in each for each in told):
+            fault(name, f"nowhere `{wanted}`: {[each[:200] for each in told[-3:]]}")
+
+
+def look_at_rows(program, card, fault):
+    """A unit with the word of each row of the card's pointer table is told as the table has it."""
+    rows = re.findall(r"\| (P\d+) \| (\d+) \| ([0-9A-F]{4})[^|]* \| ([a-z ]+)[^|]* \| (\d+) \|", card)
+    if len(rows) != 12:
+        fault("CARD.md", f"{len(rows)} rows in its pointer table")
+    for row, offset, word, taken, then in rows:
+        at = int(offset)
+        # three alike at the offset, then units enough for the wait, then the word
+        data = (f"src -\nword {0x6800 + at:04X}\nsink\nsink\nsink\nsink\nsink\nsink\nword {word}\nsink\n").encode()
+        told = told_of(data, lines_of(play(program, data, row)))
+        sentence = next((text for text in told if text.startswith("unit 7: ")), "")
+        wanted = {"plain": "unit 7: plain; ", "increment": f"unit 7: increment {offset} to {then}; ", "decrement": f"unit 7: decrement {offset} to {then}; ",
+                  "invalid": f"unit 7: invalid word {word} (", "new data": f"unit 7: new data, {offset} to {then}; "}[taken.strip()]
+        if not sentence.startswith(wanted):
+            fault(row, f"`{wanted}` is not said: {sentence[:100]}")
+
+
+def look_at_bytes(program, fault):
+    """What a byte of the line is called, against what a turned-over bit of it does to parity, label, trace and violations returned."""
+    header = {0: "H1", 1: "Y", 2: "Y", 3: "H2", 4: "1*", 5: "1*"}
+    for place, name in header.items():
+        told = told_of(f"src -\nxor {place} 01\n".encode(), ["unit ended=1 word=6800 fnv=00000000 off=0"])
+        if not any(text == f"on the line: one bit of byte {place} turned over (xor 01): {name}" for text in told):
+            fault("bytes", f"byte {place} is not called {name}: {told}")
+    for asked, lead in (("-", ""), ("i", ""), ("d", ""), ("-", "src i\nsink\nrun 5\n"), ("d", "src i\nsink\nrun 5\n"), ("i", "src d\nsink\nrun 5\n"), ("-", "src d\nsink\nrun 5\n")):
+        data = f"run 8\n{lead}src {asked}\n"
+        offset = int(re.search(r"off=(\d+)", lines_of(play(program, data.encode(), "bytes"))[-1]).group(1))
+        j1 = 3 * offset + 9
+        columns = [(j1 - 9 + 261 * row) % 2349 + 9 for row in range(9)]
+        for place in sorted({6, 8, 9, 10, 11, 12, 100, 2357, *columns, *[column + 1 for column in columns]} & set(range(2358))):
+            text = f"{data}xor {place} 80\nsink\nrun 4\n"
+            printed = lines_of(play(program, text.encode(), "bytes"))
+            clean = lines_of(play(program, f"{data}sink\nrun 4\n".encode(), "bytes"))
+            told = told_of(text.encode(), printed)
+            called = next(each for each in told if "turned over" in each).partition("): ")[2]
+            violations, returned = ([sum(unit_of(line, what) for line in lines if line.startswith("ok ")) for lines in (printed, clean)] for what in ("violations", "returned"))
+            effect = violations[0] - violations[1]
+            expected = ("carries nothing" if not effect else "B3" if effect == 2 else "G1" if returned[0] != returned[1] else "")
+            if expected and expected not in called or not expected and (re.search("nothing|B3|G1", called) or not called):
+                fault("bytes", f"`src {asked}` at offset {offset}, byte {place}: called `{called}`; {effect} violations, {returned[0] - returned[1]} more returned")
+            by_place = next((name for row, name in enumerate("J1 B3 C2 G1 F2 H4 F3 K3 N1".split()) if columns[row] == place), "payload")
+            if effect and not (by_place in called or place < 9):
+                fault("bytes", f"`src {asked}` at offset {offset}, byte {place}: called `{called}`, not {by_place}")
+
+
+def unit_of(line, what):
+    return getattr(Unit(line), what)
+
+
+def random_script(seed, lines):
+    """Lines of every kind, most of them good, some not: each command with words in and out of their ranges, and with bytes turned over."""
+    dice = random.Random(seed)
+    pick = dice.choice
+
+    def hexes(most=6):
+        text = dice.randbytes(dice.randrange(most)).hex()
+        return pick((text, text.upper(), text[:-1] if dice.random() < 0.2 else text))
+
+    def trace():
+        return pick(('"03E5"', '"03E5"', "303345352020202020202020202020", '""', '"a""b"', '"x" ', '"1234567890123456"', '"abc', '"a"b', "03E5", '"#"', '"\x7f"', b"\xc3\xa4".decode()))
+
+    made = {
+        "fresh": lambda: "fresh" if dice.random() < 0.1 else "src -",
+        "fill": lambda: f"fill {hexes(3)} 0{dice.randrange(20):X}",
+        "lens": lambda: f"lens {pick((2349, 2349, 2348, 4096, 4097))} {pick((2349, 2349, 0))}\nfresh",
+        "tx": lambda: f"tx {pick(('12', '12', '02', '00', 'fF', '1'))} {trace()} {pick((0, 0, 3, 8, 9, 255, 256))} {pick((0, 1, 0, 2))}",
+        "rx": lambda: f"rx {pick(('12', '12', '02', '00', 'fF'))} {trace()} {pick((0, 1, 15, 15, 16))}",
+        "mend": lambda: 'tx 12 "03E5" 0 0\nrx 12 "03E5" 15',
+        "run": lambda: f"run {pick((1, 2, 3, 5, 8, 20, 0, 10000, '07'))}",
+        "src": lambda: f"src {pick('--iid')}\nsink",
+        "sent": lambda: f"src {pick('-idx')}",
+        "word": lambda: f"word {pick(('6800', '6AAA', '6955', '9800', '1801', 'ffff', '6C00', '0800', hexes(3), f'{0x6800 + dice.randrange(790):X}'))}" + "\nsink" * dice.randrange(4),
+        "xor": lambda: f"xor {pick((0, 3, 6, 9, 270, 792, 2357, 2358, dice.randrange(2358), '000000001', '0000000001'))} {hexes(2)}",
+        "ones": lambda: "ones" + "\nsink" * dice.randrange(5),
+        "len": lambda: f"len {pick((2358, 2357, 0, 3, 4, 4096, 4097))}",
+        "show": lambda: "show",
+        "sink": lambda: "sink",
+        "payload": lambda: f"payload {pick((0, 1, 2))}",
+        "cat": lambda: f"cat {pick((GOOD, GOOD + OTHER, '', hexes(), *BAD.values()))}",
+        "lookup": lambda: f"lookup {pick((7, 8, 0, 10000, 999999999, 1000000000))} {pick((GOOD, BAD[13], ''))}",
+        "list": lambda: f"list {pick((GOOD, GOOD + OTHER, '', BAD[4], hexes()))}",
+        "parity": lambda: f"parity {hexes()}",
+        "check": lambda: f"check {pick(('8B' + b'03E5'.ljust(15).hex(), hexes(20)))}",
+        "read": lambda: f"read {hexes(4)}",
+        "comment": lambda: pick(("# a comment", "", "   ", "#", "sink # behind", "  sink  ", "sink#", "\tsink", "# \u00e4 \" quote", ".", "Sink", "help", "tx", "rx 12", "sink 1", "ones x")),
+    }
+    text = "\n".join(pick(list(made.values()))() for _ in range(lines)) + "\n"
+    data = bytearray(text.encode())
+    for _ in range(lines // 12):  # and some bytes hit
+        place = dice.randrange(len(data))
+        if data[place] != 0x0A:
+            data[place] = dice.choice(b' "#i-0F\r\t\x00')
+    return bytes(data)
+
+
+# ---------------------------------------------------------------------------
+# The programs as a person starts them
+# ---------------------------------------------------------------------------
+
+
+def explained(*arguments, given=b"", env=None):
+    return run([sys.executable, EXPLAIN, *arguments], given, env)
+
+
+def look_at_program(folder, program, lesson, data, printed, fault):
+    """explain.py by its command line: three ways in, bad input, a reader that goes away, and a pipe that is slow."""
+    output, odd = os.path.join(folder, "output"), os.path.join(folder, "odd")
+    with open(output, "wb") as file:
+        file.write(printed)
+    whole = explained("--width", "0", lesson, output).stdout
+    wanted = "\n".join(told_of(data, lines_of(printed))) + "\n"
+    if re.sub(rb"(?m)^    ", b"", whole).decode().replace("\n\n", "\n") != wanted:
+        fault("command line", "not what the module tells")
+    for way, arguments, given in (("a pipe", (lesson, "-"), printed), ("--bench", (lesson, "--bench", *program), b""), ("--bench in one", (lesson, "--bench", " ".join(program)), b"")):
+        done = explained("--width", "0", *arguments, given=given)
+        if done.stdout != whole or done.returncode:
+            fault("command line", f"{way}: other words, or status {done.returncode}: {done.stderr.decode()[-200:]}")
+    for width in ("40", "72"):
+        lines = explained("--width", width, lesson, output).stdout.decode().split("\n")
+        if any(len(line) > int(width) for line in lines if not line.startswith("#")):
+            fault("command line", f"--width {width}: a line is longer")
+    lines = printed.split(b"\n")
+    spoiled = {
+        "a line missing": b"\n".join(lines[:10] + lines[11:]), "cut": b"\n".join(lines[:20]) + b"\n", "a line twice": b"\n".join(lines[:7] + lines[6:]),
+        "a line more": printed + b"ok\n", "nothing": b"", "bytes": bytes(range(256)) * 4, "a cause that is none": printed.replace(b"cause=cLOP", b"cause=LOP", 1),
+        "bits for names": printed.replace(b"d=- cause=cLOP,cSSF", b"d=0000 cause=0110000", 1), "another number": printed.replace(b"? 68", b"? 69").replace(b"ended=1 c", b"ended=2 c", 1),
+        "another script's": b"cat ok 1\n",
+    }
+    for name, text in spoiled.items():
+        with open(odd, "wb") as file:
+            file.write(text)
+        done = explained(lesson, odd)
+        if text == printed or done.returncode != 1 or b"Traceback" in done.stderr or done.stderr.count(b"\n") != 1 or not done.stderr.startswith(b"explain.py: "):
+            fault("bad input", f"{name}: status {done.returncode}, {done.stderr.decode()[-300:]!r}")
+    for name, status, arguments in (("no script", 1, (os.path.join(folder, "none"), output)), ("no output", 1, (lesson, os.path.join(folder, "none"))), ("a folder", 1, (folder, output)),
+                                    ("no arguments", 2, ()), ("both", 2, (lesson, output, "--bench", *program)), ("a strange option", 2, (lesson, output, "--bref")),
+                                    ("no such bench", 1, (lesson, "--bench", os.path.join(folder, "none"))), ("a bench that fails", 1, (lesson, "--bench", "/bin/false")),
+                                    ("a bench of nothing", 1, (lesson, "--bench", ""))):
+        done = explained(*arguments)
+        if done.returncode != status or b"Traceback" in done.stderr or not done.stderr:
+            fault("bad input", f"{name}: status {done.returncode}, {done.stderr.decode()[-300:]!r}")
+    # nobody reads: no traceback
+    for name, command in (("closed", f"exec >&-; '{sys.executable}' '{EXPLAIN}' '{lesson}' '{output}'"), ("a reader that went away", f"'{sys.executable}' '{EXPLAIN}' '{lesson}' '{output}' | head -n 1 >/dev/null"),
+                          ("a full disk", f"'{sys.executable}' '{EXPLAIN}' '{lesson}' '{output}' >/dev/full")):
+        done = run(["/bin/sh", "-c", command])
+        if b"Traceback" in done.stderr or b"Exception" in done.stderr:
+            fault("nobody reads", f"{name}: {done.stderr.decode()[-300:]}")
+    # what is known is said while the bench still runs
+    with open(odd, "wb") as file:
+        file.write(b"src -\nsink\n# mark\nsrc -\nsink\n")
+    lines = lines_of(play(program, b"src -\nsink\nsrc -\nsink\n", "a slow pipe"))
+    slow = subprocess.Popen([sys.executable, EXPLAIN, "--width", "0", odd, "-"], stdin=subprocess.PIPE, stdout=subprocess.PIPE)
+    slow.stdin.write(("\n".join(lines[:2]) + "\n").encode())
+    slow.stdin.flush()
+    early, until = b"", time.monotonic() + 10
+    while b"# mark\n" not in early and time.monotonic() < until:
+        if select.select([slow.stdout], [], [], 0.5)[0]:
+            early += os.read(slow.stdout.fileno(), 4096)
+    rest, _ = slow.communicate(("\n".join(lines[2:]) + "\n").encode(), 20)
+    if not early.startswith(b"unit 1: ") or not early.endswith(b"# mark\n") or b"unit 2: " not in rest:
+        fault("a slow pipe", f"before its end it said {early!r}, and then {rest[:100]!r}")
+
+
+def look_at_desk(folder, program, everything, lesson, data, fault):
+    """A desk says what explain --lines says: typed through a pipe, and as a lesson; it helps, and ends when told to."""
+    path = os.path.join(folder, "everything.bench")
+    with open(path, "wb") as file:
+        file.write(everything)
+    printed = play(program, everything, "all lessons")
+    output = os.path.join(folder, "everything.out")
+    with open(output, "wb") as file:
+        file.write(printed)
+    wanted = explained("--lines", path, output)
+    done = run([sys.executable, DESK, "--bench", *program], everything)
+    if wanted.returncode or done.returncode or done.stderr:
+        fault("desk", f"status {wanted.returncode} and {done.returncode}: {done.stderr.decode()[-300:]}")
+    if not same_text(done.stdout, wanted.stdout):
+        fault("desk", f"not the words of explain --lines: {first_difference(done.stdout, wanted.stdout)}")
+    # a lesson: the same, with each command above its answer; step by step the same again
+    with open(output, "wb") as file:
+        file.write(play(program, data, "a lesson"))
+    wanted = explained("--lines", lesson, output).stdout
+    count = data.count(b"\n")
+    for name, arguments, typed in (("as a lesson", [lesson], b""), ("step by step", ["--step", lesson], b"\n" * count), ("and the prompt", ["--prompt", lesson], b"help\n")):
+        done = run([sys.executable, DESK, *arguments, "--bench", *program], typed)
+        text = b"\n".join(line for line in done.stdout.split(b"\n") if not re.match(rb"\d+> |# Answer:  $|Enter plays", line))
+        if name == "and the prompt":
+            text = re.sub(rb"(?ms)^  tx LABEL.*`quit`\.\n", b"", text)
+        if not same_text(text, wanted) or done.returncode:
+            fault("desk", f"{name}: status {done.returncode}, {first_difference(text, wanted)}")
+        echoes = [line.partition(b"> ")[2].strip() for line in done.stdout.split(b"\n") if re.match(rb"\d+> ", line)]
+        commands = [" ".join(words).encode() for words, _ in map(read_line, data.decode().split("\n")) if words]
+        if [b" ".join(echo.split()) for echo in echoes] != commands:
+            fault("desk", f"{name}: the commands shown are {echoes[:5]}..")
+    # the bench's own lines, numbered as they were typed
+    done = run([sys.executable, DESK, "--raw", "--bench", *program], b"parity 0102\nsnk\n\nhelp\nsnk\nquit\nparity 01\n").stdout.decode()
+    if [line.strip() for line in done.split("\n") if re.match(r" {4}(parity|\?) ", line)] != ["parity 03", "? 2", "? 4"] or "parity: 01" in done:
+        fault("desk", f"--raw, or the numbers of lines, or quit: {done[-400:]}")
+    # help
+    done = run([sys.executable, DESK, "--bench", *program], b"help\nhelp sink\nhelp 4\nhelp cTIM\nhelp nothing\n").stdout.decode()
+    for name in scripts.COMMANDS:
+        if not re.search(rf"^  {re.escape(scripts.form(name))}  ", done, re.MULTILINE):
+            fault("desk", f"help has no {name}")
+    joined = " ".join(done.split())
+    for text in ["st=", "off=", "held=", "ended=", "c=", "ssf=", "tsf=", "ais=", "rdi=", "d=", "cause=", "settled=", "total=", "hb=", "db=",
+                 "refusal 4: label 00 means", "cTIM (HP-TIM): trace mismatch: ", "There is no help on nothing"]:
+        if text not in joined:
+            fault("desk", f"help does not say {text}")
+    for name, arguments, given in (("a bench that is not there", ["--bench", os.path.join(folder, "none")], b""), ("no such lesson", [os.path.join(folder, "none"), "--bench", *program], b""),
+                                   ("a bench that ends", ["--bench", "/bin/true"], b"sink\n"), ("a step without a lesson", ["--step", "--bench", *program], b"")):
+        done = run([sys.executable, DESK, *arguments], given)
+        if done.returncode not in (1, 2) or b"Traceback" in done.stderr or not done.stderr:
+            fault("desk", f"{name}: status {done.returncode}, {done.stderr.decode()[-300:]!r}")
+    # a bench that says something else is shown, and no reason to stop
+    done = run([sys.executable, DESK, "--bench", "/bin/sh", "-c", "k=0; while read -r line; do k=$((k+1)); [ \"$line\" = . ] && echo \"? $k\" || echo peek; done"], b"sink\nsink\n")
+    if done.stdout.count(b"cannot be put into words") != 2 or done.stdout.count(b"    peek") != 2 or b"Traceback" in done.stderr:
+        fault("desk", f"a bench that says something else: {done.stdout[-300:]} {done.stderr[-300:]}")
+
+
+def same_text(one, other):
+    return one.replace(b"\n\n", b"\n") == other.replace(b"\n\n", b"\n")
+
+
+def first_difference(one, other):
+    ours, theirs = one.split(b"\n"), other.split(b"\n")
+    for place in range(max(len(ours), len(theirs))):
+        a, b = (lines[place] if place < len(lines) else None for lines in (ours, theirs))
+        if a != b:
+            return f"line {place + 1}: {a!r} for {b!r}"
+    return "the empty lines"
+
+
+# ---------------------------------------------------------------------------
+# These checks, on words and lines that are wrong
+# ---------------------------------------------------------------------------
+
+
+def look_at_checks(program, pages, refusals, fault):
+    """Each of these faults, put in by hand, must be found by the checks above."""
+    found = []
+
+    def note(what, text):
+        found.append((what, text))
+
+    def tried(name, look):
+        found.clear()
+        look()
+        if not found:
+            fault("these checks", f"not found: {name}")
+
+    base = b'rx 12 "03E5" 15\nrun 70\ntx 12 "03E6" 2 0\nrun 60\nones\nsink\nsink\nsink\nsnk\nrun 9\nsrc i\nsink\nrun 4\nsrc d\nxor 300 07\nsink\nrun 3\nfresh\nrx 00 "" 0 # ends\nrun 2\n'
+    printed = lines_of(play(program, base, "these checks"))
+    told = told_of(base, printed)
+    look_at_run("a good run", base, printed, told, refusals, fault)
+
+    def change(old, new):
+        place = next((place for place, text in enumerate(told) if old in text), None)
+        if place is None:
+            fault("these checks", f"no sentence has `{old}`")
+            return told
+        return told[:place] + [told[place].replace(old, new, 1)] + told[place + 1 :]
+
+    words = {
+        "another cause": change("reported: cTIM (HP-TIM)", "reported: cPLM (HP-PLM)"), "a tester's name": change("cLOP (AU-LOP)", "cLOP (AU-AIS)"),
+        "a cause left out": change("reported: cLOP (AU-LOP), cSSF (HP-SSF)", "reported: cLOP (AU-LOP)"), "a defect left out": change("trace mismatch sets (dTIM, HP-TIM), so ", ""),
+        "sets for stands": change("trace mismatch (dTIM) still stands", "trace mismatch sets (dTIM, HP-TIM)"), "another defect": change("clears (dTIM)", "clears (dPLM)"),
+        "no AIS": change("AIS and RDI go on", "RDI goes on"), "containers": change("two containers ended", "one container ended"), "none for one": change("one container each", "no container ended"),
+        "violations": change("parity violations", "no violations"), "another number returned": change("two violations returned by", "one violation returned by"),
+        "an offset": change("found at offset 0", "found at offset 1"), "up for down": change("decrement 1 to 0", "increment 1 to 0"), "another step": change("increment 0 to 1", "increment 0 to 2"),
+        "settled": change("; settled", "; not settled"), "not settled": change("; not settled", "; settled"), "how many did not": change("63 units did not", "64 units did not"),
+        "a unit's number": change("units 4 to ", "units 5 to "), "a unit twice": told + [text for text in told if text.startswith("unit 3")], "a unit left out": [text for text in told if not text.startswith("unit 3:")],
+        "a refusal's words": change("label 00 means that nothing is carried", "label 00 means alarm"), "a refusal left out": [text for text in told if not text.startswith("rx refused")],
+        "how often": change(", 2 times", ", 3 times"), "the advice": change("Send the order form back", "Try again"), "another line": change("line 9 is", "line 8 is"),
+        "another line's text": change("`snk`", "`snik`"), "a comment": change("# ends", "# ended"), "a trace cut": change('trace "03E6           "', 'trace "03E6"'), "alarm": change("goes to alarm", "is lost"),
+        "SSF": change("server signal fail (SSF), so ", ""), "fresh": [text for text in told if not text.startswith("fresh")],
+    }
+    for name, texts in words.items():
+        tried(name, lambda texts=texts: look_at_run("spoiled", base, printed, texts, refusals, note))
+    # printed lines of another run, told as they stand, are not those of this one
+    lines = {"cause=cTIM": "cause=cPLM", "d=dTIM": "d=dPLM", "settled=1": "settled=0", "ended=2 c=": "ended=1 c=", " off=1 ": " off=2 ", "v=3,": "v=4,", "fe=2": "fe=3", "st=alarm": "st=lost",
+             "ais=1": "ais=0", "rdi=1": "rdi=0", "ssf=1": "ssf=0", "refused 4": "refused 5", "? 9": "? 8"}
+    for old, new in lines.items():
+        place = next((place for place, text in enumerate(printed) if old in text and (text.startswith("ok ") or not old.startswith(" "))), None)
+        if place is None:
+            fault("these checks", f"no printed line has `{old}`")
+            continue
+        other = list(printed)
+        other[place] = other[place].replace(old, new, 1)
+        tried(f"printed {new} for {old}", lambda other=other: look_at_run("spoiled", base, other, told, refusals, note))
+    brief = told_of(base, printed, brief=True)
+    for name, texts in (("a defect", [text for text in brief if "dTIM clears" not in text]), ("a line", [text for text in brief if "line 9" not in text]),
+                        ("too much", brief + ["x" * (LONGEST_BRIEF + 1)]), ("a step", [text.replace("decrement 1 to 0", "") for text in brief])):
+        tried(f"brief without {name}", lambda texts=texts: look_at_brief("spoiled", printed, told, texts, note))
+    # pages
+    page, glossary, header, card = pages
+    for name, changed in (("a word of the glossary", (page, glossary.replace("| 7 | an adjustment", "| 7 | a change"), header, card)),
+                          ("a word of the header", (page, glossary, header.replace("flags are above 15", "flags above 15"), card)),
+                          ("a word of the page", (page.replace("| 14 | the circuit is not listed", "| 14 | the circuit is unknown"), glossary, header, card)),
+                          ("a number", (page.replace("| 8 | the state", "| 15 | the state"), glossary, header, card)),
+                          ("an order", (page.replace("| sink | 8, 4, 5, 1, 3 |", "| sink | 8, 4, 5, 3, 1 |"), glossary, header, card)),
+                          ("who gives it", (page.replace("| unit source, sink |", "| unit source |", 1), glossary, header, card)),
+                          ("the card's order", (page, glossary, header, card.replace("| payload call | 3, 2 |", "| payload call | 2, 3 |"))),
+                          ("a tester's name", (page, glossary.replace("| HP-TIM |", "| HP-PLM |"), header, card)),
+                          ("a rule that is none", (page, glossary.replace("[4.3](CARD.md#r4-3)", "[4.33](CARD.md#r4-33)"), header, card)),
+                          ("a long line", (page, glossary, header.replace("13  two records have the same trace", "13  two records have the same" + " " * 40 + "trace"), card))):
+        if changed == pages:
+            fault("these checks", f"nothing to change: {name}")
+        tried(name, lambda changed=changed: look_at_pages(*changed, note))
+    return len(words) + len(lines) + 14
+
+
+# ---------------------------------------------------------------------------
+
+
+def main():
+    if len(sys.argv) < 2:
+        sys.exit("usage: explain.py PROGRAM [ARGS..]")
+    program = [os.path.abspath(sys.argv[1]), *sys.argv[2:]]
+    pages = tuple(read(path).decode() for path in ("docs/REFUSALS.md", "docs/GLOSSARY.md", "include/card.h", "docs/CARD.md"))
+    refusals = look_at_pages(*pages, fault)
+    names = [os.path.relpath(os.path.join(folder, name), ROOT) for top in ("lessons", "examples") for folder, _, files in os.walk(os.path.join(ROOT, top))
+             for name in sorted(files) if name.endswith(".bench")]
+    if len(names) < 30:
+        fault("lessons and examples", f"only {len(names)} scripts")
+    longest, everything = 0, b""
+    for name in sorted(names):
+        data = read(name)
+        printed, told, brief = look_at_script(name, data, program, refusals, fault)
+        wrapped = sum(len(explain.wrapped(explain.Item("said", text), 100)) for text in brief)
+        longest = max(longest, wrapped if name.startswith("lessons") else 0)
+        if name.startswith("lessons") and wrapped > MOST_BRIEF:
+            fault(f"{name} in brief", f"{wrapped} lines, and more than {MOST_BRIEF} do not fit on a projector")
+        if name.startswith("lessons"):
+            everything += data + b'fresh\ntx 12 "03E5" 0 0\nrx 12 "03E5" 0\n'
+            # with CR LF and a byte order mark it is the same script
+            other = b"\xef\xbb\xbf" + data.replace(b"\n", b"\r\n")
+            if told_of(other, lines_of(play(program, other, name))) != told:
+                fault(name, "other words with CR LF and a byte order mark")
+    look_at_refusals(program, refusals, fault)
+    look_at_rows(program, pages[3], fault)
+    look_at_bytes(program, fault)
+    for seed in range(4):
+        look_at_script(f"random lines {seed}", random_script(seed, 400), program, refusals, fault)
+    lesson = "lessons/01-one-plain-path.bench"
+    with tempfile.TemporaryDirectory() as folder:
+        look_at_program(folder, program, os.path.join(ROOT, lesson), read(lesson), play(program, read(lesson), lesson), fault)
+        look_at_desk(folder, program, everything, os.path.join(ROOT, lesson), read(lesson), fault)
+    seeded = look_at_checks(program, pages, refusals, fault)
+    count = sum(map(len, failures.values()))
+    print(f"explain: {len(names)} scripts and {checked['runs']} runs, {checked['units']} units in {checked['sentences']} sentences, {checked['refusals']} refusals, "
+          f"{checked['strange']} lines not understood; refusals 1 to 14, of which the bench cannot give 2 and 8; brief at most {longest} lines; "
+          f"{seeded} faults put in are found; {f'{count} faults' if count else 'all as printed'}")
+    if count:
+        sys.exit(1)
+
+
+if __name__ == "__main__":
+    main()
