@@ -40,7 +40,7 @@ ON_TESTER = dict(zip(NAMES[8:], "AU-AIS AU-LOP HP-SSF HP-UNEQ HP-TIM HP-RDI HP-P
 NEAR = 3  # how far a bar's edge may lie from the edge of a cell
 NARROW = "fijlrtI .,:;'!|()[]-\u00a0"
 SCREEN, PAGE = (1920, 1080), (277, 190)  # dots; millimetres within the margins of A4, laid across
-LEAST_DOTS, LEAST_MILLIMETRES = 9, 1.4  # of the smallest letters on them, in the scripts of examples and lessons
+LEAST_DOTS, LEAST_MILLIMETRES = 9, 1.3  # of the smallest letters on them, in the scripts of examples and lessons
 BLANK = "\u00b7"  # a blank of a trace
 
 SHOWN = 8  # faults of one thing
@@ -278,7 +278,7 @@ class Reading:
         above = []
         for number, line in enumerate(script, 1):
             words, comment = read_line(line)
-            comment = comment.lstrip("#").strip()
+            comment = comment.lstrip("#").strip().removeprefix("not understood:").strip()
             if words == []:
                 above = above + [comment] * (not comment.startswith("see:")) if comment else []
                 continue
@@ -442,10 +442,7 @@ class Shape:
             else:
                 foot, along = float(element.get("y")), float(element.get("x"))
                 self.x, self.y, self.width, self.height = along - long * before, foot - 0.7 * self.size, long, 0.7 * self.size
-
-    @property
-    def middle(self):
-        return self.x + self.width / 2, self.y + self.height / 2
+        self.middle = self.x + self.width / 2, self.y + self.height / 2
 
     def has(self, x, y):
         return self.x <= x <= self.x + self.width and self.y <= y <= self.y + self.height

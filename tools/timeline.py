@@ -267,8 +267,8 @@ def said_of(step, run):
 
 
 def comment_of(line):
-    """What a comment says; None where there is none."""
-    return None if line.comment is None else line.comment.lstrip("#").strip()
+    """What a comment says; None where there is none. That a line is not understood is said of the line."""
+    return None if line.comment is None else line.comment.lstrip("#").strip().removeprefix("not understood:").strip()
 
 
 def title_of(comments):
@@ -441,15 +441,15 @@ class Picture:
             more.update(x=x, y=y + 0.36 * size)
         self.element("text", text, class_=class_, font_size=size, text_anchor=anchor, **more)
 
-    def fitted(self, x, y, width, height, texts, size, class_="ink", bold=False, plate="", least=0.72, **more):
-        """Writes the first text that has room in the box: level, if need be smaller, else turned; none where none has.
+    def fitted(self, x, y, width, height, texts, size, class_="ink", bold=False, plate="", least=0.5, **more):
+        """Writes the first text that has room in the box: level, if need be smaller, else turned, else smaller still; none where none has.
         A plate is put behind it."""
-        for turned in (False, True):
+        for turned, scales in ((False, (1, 0.85, 0.72)), (True, (1, 0.85, 0.72)), (False, (0.6, 0.5)), (True, (0.6, 0.5))):
             along, across = (height, width) if turned else (width, height)
-            for now in (size * scale for scale in (1, 0.85, 0.72) if scale >= least):
+            for now in (size * scale for scale in scales if scale >= least):
                 for text in texts:
                     wide = width_of(text, now, bold)
-                    if wide + 5 <= along and now * 0.9 <= across:
+                    if wide + min(5, 0.15 * along) <= along and now * 0.9 <= across:
                         if plate:
                             w, h = (min(now * 1.05, width), wide + 12) if turned else (min(wide + 14, width - 6), now * 1.15)
                             self.rect(x + width / 2 - w / 2, y + height / 2 - h / 2, w, h, plate, rx=4)
@@ -498,9 +498,9 @@ PATTERNS = [
 
 # Of all ways to lay a run out the one is taken that has the largest letters on these: a screen, which counts twice, and a page.
 SHEETS = (1920, 1080), (1920, 1080), (1920, 1358)
-LEAST_WIDTH, WIDER = 1280, 1.06  # the least width that is tried, and how much wider the next one is
-MARGIN, GUTTER, RIGHT = 28, 330, 32
-LEAST_CELL, WIDEST_CELL = 18, 260  # a unit's column
+LEAST_WIDTH, WIDER = 1280, 1.08  # the least width that is tried, and how much wider the next one is
+MARGIN, GUTTER, RIGHT = 28, 336, 32
+LEAST_CELL, GOOD_CELL, WIDEST_CELL = 13, 18, 260  # a unit's column; in one that is narrower than a good one the letters are small
 LEAST_REFUSED, REFUSED = 26, 52  # a refused call's, which has less to say
 ROOMY = 60  # from this width on a column has its values written in it
 LEAST_NOTES, BETWEEN = 620, 40  # a column of notes, and what lies between two
@@ -521,6 +521,9 @@ def bands_of(columns, count):
 def cell_widths(columns, bands, room):
     """How wide a unit's column may be, and a refused call's."""
     widest = WIDEST_CELL
+    if not any(column.unit for column in columns):
+        alone = min(widest, int(room / max(map(len, bands), default=1)))
+        return alone if alone >= LEAST_REFUSED else 0, alone
     for band in bands:
         units = sum(1 for place in band if columns[place].unit)
         refused = len(band) - units
@@ -622,7 +625,7 @@ class Drawing:
             while sum(wide / width for wide, _ in SHEETS) > found[0]:
                 if cell_widths(self.columns, bands, width - GUTTER - RIGHT)[0] >= LEAST_CELL:
                     self.arrange(bands, width)
-                    scale = sum(min(wide / width, high / self.height) for wide, high in SHEETS)
+                    scale = sum(min(wide / width, high / self.height) for wide, high in SHEETS) * (1 + min(1, self.cell / GOOD_CELL)) / 2
                     if scale > found[0] * 1.005:
                         found = scale, bands, width
                 width = int(width * WIDER)
@@ -883,7 +886,7 @@ class Drawing:
                 out.text(MARGIN, at + tall / 2, name, GROUP, "pale", anchor="start")
             out.text(GUTTER - 14, at + tall / 2, label, NAME, anchor="end", bold=True)
             if on_tester:
-                out.text(GUTTER - 118, at + tall / 2, on_tester, SMALL, "pale", anchor="end")
+                out.text(GUTTER - 122, at + tall / 2, on_tester, SMALL, "pale", anchor="end")
             draw(band, at, tall)
             at += tall
             if name == "line":
@@ -895,9 +898,9 @@ class Drawing:
                 out.line(x, top, x, bottom, "anew")
             if column.refused:
                 out.rect(x + 2, sent + 6, width - 4, bottom - sent - 8, "refused", data_row="refused")
-                box = x, sent, width, bottom - sent
-                if not out.fitted(*box, [column.refused], NAME, "warn", bold=True, plate="plate", least=1):
-                    out.fitted(*box, [column.refused], NAME, "warn", bold=True, plate="plate")
+                level = all(width_of(other.refused or "", NAME, True) + 14 <= width for other in self.columns)
+                room = width if level else min(width, REFUSED)  # all of them level, or all turned
+                out.fitted(x + (width - room) / 2, sent, room, bottom - sent, [column.refused], NAME, "warn", bold=True, plate="plate")
         for x, half, mark, level in flags:
             high = axis - (level + 1) * LETTER
             out.rect(x - half, high, 2 * half, LETTER - 6, "flag", rx=4)
