@@ -38,7 +38,7 @@ OTHERS = ["crates.svg"]  # no run: tools/crates.py makes and compares it
 NAMES = "dUNEQ dTIM dPLM dRDI SSF TSF AIS RDI cAIS cLOP cSSF cUNEQ cTIM cRDI cPLM".split(" ")
 ON_TESTER = dict(zip(NAMES[8:], "AU-AIS AU-LOP HP-SSF HP-UNEQ HP-TIM HP-RDI HP-PLM".split(" ")))
 NEAR = 3  # how far a bar's edge may lie from the edge of a cell
-NARROW = "fijlrtI .,:;'!|()[]-\u00a0"
+NARROW = "fijlrtI .,:;'\"!|()[]-\u00a0"
 SCREEN, PAGE = (1920, 1080), (277, 190)  # dots; millimetres within the margins of A4, laid across
 LEAST_DOTS, LEAST_MILLIMETRES = 9, 1.3  # of the smallest letters on them, in the scripts of examples and lessons
 BLANK = "\u00b7"  # a blank of a trace
@@ -144,9 +144,9 @@ src -
 
 def long_run(units):
     """Many units with something among them everywhere, so that it comes at the edges of bands too."""
-    lines = ["# A long run", '# Not of the title', 'rx 01 "" 15', 'tx 01 "" 0 0']
+    lines = ["# A long run", "# Not of the title", 'rx 01 "" 15', 'tx 01 "" 0 0']
     for k in range(units):
-        lines += {3: ["# comment"], 7: ["src i", "sink"], 11: ["src d"], 12: ["src -", "ones", "sink", "sink", "sink"], 17: ["len 2350", "sink"],
+        lines += {3: ["# A long run has comments"], 7: ["src i", "sink"], 11: ["src d"], 12: ["src -", "ones", "sink", "sink", "sink"], 17: ["len 2350", "sink"],
                   19: ["src -", "word 0800", "sink", "xor 100 07"], 22: [f'tx 0{1 + k % 2} "" {k % 10} {k % 2}'], 5: ["rx FF \"\" 1", "sink", 'rx 01 "" 15']}.get(k % 23, [])
         lines += ["run 1"] + ["fresh"] * (k in (77, 78, 79, 150))
     return "\n".join(lines) + "\n"
@@ -190,6 +190,10 @@ class Call:
             self.standing = [name for name in NAMES if name in self.said["d"].split(",") + actions + self.said["cause"].split(",")]
 
 
+def printable(text):
+    return "".join(each if each.isprintable() and each != "\ufffd" else "?" for each in text)
+
+
 def squeezed(text):
     """Without blanks, but for those of a trace, which are to be seen."""
     return re.sub("[ \u00a0]", "", text)
@@ -200,6 +204,7 @@ def trace_shown(data):
 
 
 def prose(text):
+    text = text if len(text) <= 1000 else text[:1000] + "..."
     return squeezed(re.sub('"[^"]{1,15}"', lambda found: found[0].replace(" ", BLANK), text))
 
 
@@ -275,21 +280,22 @@ class Reading:
 
     def follow(self, script):
         """Line by line. Noted are comments right above a command and behind it, and what is set."""
-        above = []
+        above, heading, seen = [], self.title, False
         for number, line in enumerate(script, 1):
             words, comment = read_line(line)
-            comment = comment.lstrip("#").strip().removeprefix("not understood:").strip()
-            if words == []:
-                above = above + [comment] * (not comment.startswith("see:")) if comment else []
+            comment = printable(comment).lstrip("#").strip()
+            if words == [] and self.upcoming != f"? {number}":
+                above = above + [comment.removeprefix("not understood:")] * (not comment.startswith("see:")) if comment else []
+                seen, heading = seen or bool(comment), heading if above or not seen else None  # None: the title's own lines have passed
                 continue
             told = [text for k, text in enumerate(above) if not any(earlier.startswith(("Question:", "Answer:")) for earlier in above[: k + 1])]
-            told = prose(" ".join(told).removeprefix(self.title or "").strip())
-            above, behind = [], "" if comment.startswith("see:") else prose(comment)
+            told = prose(" ".join(told).removeprefix(heading or "").strip())
+            above, heading, behind = [], None if seen else heading, "" if comment.startswith("see:") else prose(comment)
             if self.upcoming == f"? {number}":
                 self.take()
                 self.source_alone()
                 self.say(told)
-                shown = (" ".join(words) if words else line).replace(" ", BLANK)
+                shown = printable(" ".join(words) if words else line.removeprefix("\ufeff")).replace(" ", BLANK)
                 self.say(f"line{number}notunderstood:{shown[:40]}\0" + (f"#{behind}" if behind else ""))
             elif words[0] == "run":
                 self.source_alone()
@@ -973,7 +979,7 @@ def shown(bench, script):
         words, _ = read_line(line.decode("utf-8", errors="replace"))
         if words == ["sink"]:
             longer += [b"show", b"sink"]
-        elif words and words[0] == "run":
+        elif words and words[0] == "run" and re.fullmatch(r"0*[1-9]\d{0,3}", " ".join(words[1:])):
             longer += [b"src -", b"show", b"sink"] * int(words[1])
         else:
             longer.append(line)

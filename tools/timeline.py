@@ -24,8 +24,9 @@ from xml.sax.saxutils import escape, quoteattr
 sys.dont_write_bytecode = True  # nothing is left beside the tools
 import script  # noqa: E402
 
-MOST = 2000  # columns in one picture
+MOST, MOST_LINES = 2000, 8  # columns in one picture, and lines of bytes that were asked about
 WRAPPED, LONG_TITLE = 70, 110  # characters of a comment's line that may go on below, and of a title of more than one sentence
+LONGEST = 1000  # characters of a comment that are drawn
 
 # What has a row of its own with a bar in it: for each group its names in the order of the rows, and what a tester calls them. A defect or a
 # cause that a request brings is added here; until then the picture of a run that names it is refused, for it would not show all.
@@ -56,21 +57,24 @@ def as_printed(text):
     return OPEN + re.sub(r"\[.*\]| ", lambda found: "\u00a0" if found[0] == " " else found[0].replace(" ", BLANK), text) + CLOSE
 
 
+def digits(data):
+    return data.hex().upper()
+
+
 def trace_text(data):
     """A trace as the listing has it, in brackets; its digits where a character cannot be shown."""
-    return f"[{data.decode('ascii')}]" if data and all(0x20 <= byte <= 0x7E for byte in data) else data.hex().upper()
+    return f"[{data.decode('ascii')}]" if all(0x20 <= byte <= 0x7E for byte in data) else digits(data)
 
 
 def bytes_lines(name, data):
     """Bytes that something was asked about, in lines: digits, but for a trace. A catalogue has a line for each record."""
+    if name == "check" and 1 < len(data) <= 16:
+        return [f"{digits(data[:1])} {trace_text(data[1:])}"]
     if name in ("cat", "lookup", "list") and len(data) % 21 == 0:
-        cuts, size = (2, 4, 5, 20, 21), 21
+        records = [data[k : k + 21] for k in range(0, len(data), 21)]
+        lines = [f"{digits(each[:2])} {digits(each[2:4])} {digits(each[4:5])} {trace_text(each[5:20])} {digits(each[20:])}" for each in records]
     else:
-        cuts, size = ((1, 16), 16) if name == "check" and len(data) <= 16 else ((24,), 24)
-    lines = []
-    for start in range(0, len(data), size):
-        pieces = [data[start + first : min(start + last, start + size)] for first, last in zip((0, *cuts), cuts)]
-        lines.append(" ".join(trace_text(piece) if last - first == 15 else piece.hex().upper() for piece, first, last in zip(pieces, (0, *cuts), cuts)).rstrip())
+        lines = [digits(data[k : k + 24]) for k in range(0, len(data), 24)]
     return lines[:MOST_LINES] + [f"and so on: {len(data)} bytes"] * (len(lines) > MOST_LINES) or ["no bytes"]
 
 
@@ -230,7 +234,7 @@ def check_fields(said):
 
 def prose(text):
     """A comment: what may be a trace in quotes has its blanks, and other blanks are one."""
-    parts = re.split(r'("[^"]{1,15}")', text)
+    parts = re.split(r'("[^"]{1,15}")', text if len(text) <= LONGEST else text[:LONGEST] + "...")
     return " ".join("".join(fixed(part) if k % 2 else re.sub(" +", " ", part) for k, part in enumerate(parts)).split(" "))
 
 
@@ -267,8 +271,8 @@ def said_of(step, run):
 
 
 def comment_of(line):
-    """What a comment says; None where there is none. That a line is not understood is said of the line."""
-    return None if line.comment is None else line.comment.lstrip("#").strip().removeprefix("not understood:").strip()
+    """What a comment says; None where there is none."""
+    return None if line.comment is None else line.comment.lstrip("#").strip()
 
 
 def title_of(comments):
@@ -288,22 +292,22 @@ def with_script(lines, printed):
 
     Comments right above a command and behind it are noted. Not so where an empty line or an empty comment stands between, nor `# see:`, which says in
     words what the picture shows, nor what begins with `# Question:` or `# Answer:`, which a class that looks at the picture is not to read."""
-    run, comments = Run(), []
+    run, comments, heading = Run(), [], ""
     for step in script.pair(lines, printed):
         text = comment_of(step.line)
         if step.name == "":
             if text and run.title is None:
                 block = itertools.takewhile(lambda line: line.name == "" and comment_of(line), lines[step.line.number - 1 :])
-                run.title = title_of([comment_of(line) for line in block])
+                run.title = heading = title_of([comment_of(line) for line in block])
             if not text:
-                comments = []
+                comments, heading = [], ""
             elif not text.startswith("see:"):
-                comments.append(text)
+                comments.append(text.removeprefix("not understood:").strip())  # which is said of the line below it
             continue
         begins = step.turn == 0 or step.turn == 1 and step.name == "src"
         behind = prose(text) if begins and text and not text.startswith("see:") else ""
         above = itertools.takewhile(lambda comment: not comment.startswith(("Question:", "Answer:")), comments)
-        above, comments = prose(" ".join(above).removeprefix(run.title or "").strip()), []
+        above, comments, heading = prose(" ".join(above).removeprefix(heading).strip()), [], ""
         if step.name != "sink":
             run.no_sink()
         if step.name in QUESTIONS:
@@ -379,7 +383,7 @@ def width_of(text, size, bold=False):
 
 def parted(word, size, room, bold):
     """A word that is longer than a line, in two; the first has at least a character."""
-    cut = next(k for k in range(len(word) - 1, 0, -1) if k == 1 or width_of(word[:k], size, bold) <= room)
+    cut = next(k for k in range(1, len(word)) if width_of(word[: k + 1], size, bold) > room)
     first, rest = word[:cut], word[cut:]
     return (first + CLOSE, OPEN + rest) if first.count(OPEN) > first.count(CLOSE) else (first, rest)
 
@@ -507,7 +511,6 @@ LEAST_NOTES, BETWEEN = 620, 40  # a column of notes, and what lies between two
 NAME, VALUE, GROUP, SMALL = 27, 25, 22, 21  # sizes of type
 LETTER, LINE = 34, 28  # from a note to the next, and from a line to the next within a box
 AXIS, GAP = 44, 8  # the numbers of the units, and what lies above a group of rows
-MOST_LINES = 8  # of bytes that were asked about
 
 
 def bands_of(columns, count):
@@ -527,7 +530,7 @@ def cell_widths(columns, bands, room):
     for band in bands:
         units = sum(1 for place in band if columns[place].unit)
         refused = len(band) - units
-        if units * REFUSED + refused * REFUSED <= room:
+        if len(band) * REFUSED <= room:
             widest = min(widest, (room - refused * REFUSED) / units if units else WIDEST_CELL)
         elif len(band) * LEAST_REFUSED <= room:
             widest = min(widest, room / len(band))
@@ -843,8 +846,8 @@ class Drawing:
         for place, mark in sorted(self.letters.items()):
             if place not in band and not (place == len(self.columns) and band and band[-1] == place - 1):
                 continue
-            x = self.middle(place) if place in band else self.end[place - 1] + 8
             half = 6 + width_of(mark, VALUE, True) / 2
+            x = self.middle(place) if place in band else min(self.end[place - 1] + 8, self.width - half - 2)
             level = next((k for k, end in enumerate(ends) if end + 4 <= x - half), len(ends))
             ends[level:level + 1] = [x + half]
             placed.append((x, half, mark, level))
