@@ -44,7 +44,7 @@ ORDERS = {
 }
 NUMBERS = {"no": 0, "one": 1, "two": 2}
 MOST_BRIEF = 40  # lines of a lesson in its brief form, on a projector
-LONGEST_BRIEF = 180  # characters of one of them before it is wrapped
+LONGEST_BRIEF = 200  # characters of one of them before it is wrapped
 SHOWN = 8  # faults of one thing
 
 failures = {}
@@ -435,6 +435,22 @@ ANSWERS = {
     'tx 02 "A" 8 1\n': 'tx: the source is set to label 02 (TUG structure), trace "A              ", 8 violations returned in each container (HP-REI), with remote defect (RDI)',
     "src i\nsrc -\n": "sent, and not fed to the sink: an increment, 0 to 1 (word 6AAA)",
     "sink\n": "unit 1: nothing was sent: the line is all 00; ",
+    # why the pointer is where it is
+    "run 3\n": "unit 3: three equal words, so the pointer is found at offset 0; ",
+    "run 3\nsrc -\nword 692C\nsink\nsink\nsink\n": "three equal words, 0 to 300; ",
+    "run 3\nones\nsink\n": "unit 4: an alarm word (FFFF), offset 0 stays; ",
+    "run 3\nones\nsink\nsink\nsink\n": "three alarm words in a row, so the pointer goes to alarm; ",
+    "run 3\nones\nsink\nsink\nsink\nsink\n": "still in alarm; ",
+    "run 3\nones\nsink\nsink\nsink\nsrc -\nword 9805\nsink\n": "unit 7: new data, so the pointer is found at offset 5; ",
+    "run 3\nsrc -\nword 9800\nsink\n": "unit 4: new data at the same offset, 0; ",
+    "run 3\nsrc -\nword 0800\n" + "sink\n" * 8: "unit 11, the same line again: the eighth invalid word in a row, so the pointer is lost; ",
+    "run 3\nsrc -\nword 9800\n" + "sink\n" * 8: "unit 11, the same line again: new data for the eighth time in a row, so the pointer is lost; ",
+    "run 3\nsrc -\nword 0800\n" + "sink\n" * 9: "pointer still lost; ",
+    "run 3\nsrc -\nword 6801\nsink\n": "unit 4: invalid word 6801 (value 1), offset 0 stays; ",
+    "run 3\nsrc -\nword 6C00\nsink\n": "unit 4: invalid word 6C00 (SS 11), offset 0 stays; ",
+    "run 3\nsrc -\nword 0800\nsink\n": "unit 4: invalid word 0800 (NDF 0000), offset 0 stays; ",
+    "run 3\nword 9800\nsink\nword 6AAA\nsink\n": "unit 5: invalid word 6AAA (increment too soon after the last adjustment or new data), offset 0 stays; ",
+    "src i\nlen 3\nsrc i\nword 6800\n": "the pointer word is now 6800",  # a refused unit has made the line long again
     "run 80\n": "In all 80 units: 17 settled, 63 did not; settled from unit 64 on",
     'tx 00 "" 0 0\nrun 3\n': "units 1 to 3, one line fed 3 times: nothing new was sent (container refused 4); ",
     'tx 12 03E5 0 0\n': 'has no quotes; as a name it is written "03E5"',
@@ -630,16 +646,23 @@ def look_at_program(folder, program, lesson, data, printed, fault):
     with open(odd, "wb") as file:
         file.write(b"src -\nsink\n# mark\nsrc -\nsink\n")
     lines = lines_of(play(program, b"src -\nsink\nsrc -\nsink\n", "a slow pipe"))
-    slow = subprocess.Popen([sys.executable, EXPLAIN, "--width", "0", odd, "-"], stdin=subprocess.PIPE, stdout=subprocess.PIPE)
-    slow.stdin.write(("\n".join(lines[:2]) + "\n").encode())
-    slow.stdin.flush()
-    early, until = b"", time.monotonic() + 10
-    while b"# mark\n" not in early and time.monotonic() < until:
-        if select.select([slow.stdout], [], [], 0.5)[0]:
-            early += os.read(slow.stdout.fileno(), 4096)
-    rest, _ = slow.communicate(("\n".join(lines[2:]) + "\n").encode(), 20)
+    early, rest = early_and_late([sys.executable, EXPLAIN, "--width", "0", odd, "-"], "\n".join(lines[:2]) + "\n", b"# mark\n", "\n".join(lines[2:]) + "\n")
     if not early.startswith(b"unit 1: ") or not early.endswith(b"# mark\n") or b"unit 2: " not in rest:
         fault("a slow pipe", f"before its end it said {early!r}, and then {rest[:100]!r}")
+
+
+def early_and_late(command, first, mark, then):
+    """What a program says to the first lines, up to a mark, while it waits for more; and what it says to the rest."""
+    env = {name: value for name, value in os.environ.items() if name != "PYTHONUNBUFFERED"}
+    slow = subprocess.Popen(command, stdin=subprocess.PIPE, stdout=subprocess.PIPE, env=env)
+    slow.stdin.write(first.encode())
+    slow.stdin.flush()
+    early, until = b"", time.monotonic() + 10
+    while mark not in early and time.monotonic() < until:
+        if select.select([slow.stdout], [], [], 0.5)[0]:
+            early += os.read(slow.stdout.fileno(), 4096)
+    rest, _ = slow.communicate(then.encode(), 20)
+    return early, rest
 
 
 def look_at_desk(folder, program, everything, lesson, data, fault):
@@ -673,6 +696,10 @@ def look_at_desk(folder, program, everything, lesson, data, fault):
         commands = [" ".join(words).encode() for words, _ in map(read_line, data.decode().split("\n")) if words]
         if [b" ".join(echo.split()) for echo in echoes] != commands:
             fault("desk", f"{name}: the commands shown are {echoes[:5]}..")
+    # each line is answered at once, a comment behind it too
+    early, rest = early_and_late([sys.executable, DESK, "--bench", *program], "sink # behind\n", b"# behind\n", "sink\n")
+    if not early.startswith(b"unit 1: ") or not early.endswith(b"# behind\n") or not rest.startswith(b"unit 2"):
+        fault("desk", f"to its first line it said {early!r}, and then {rest[:100]!r}")
     # the bench's own lines, numbered as they were typed
     done = run([sys.executable, DESK, "--raw", "--bench", *program], b"parity 0102\nsnk\n\nhelp\nsnk\nquit\nparity 01\n").stdout.decode()
     if [line.strip() for line in done.split("\n") if re.match(r" {4}(parity|\?) ", line)] != ["parity 03", "? 2", "? 4"] or "parity: 01" in done:
@@ -815,7 +842,8 @@ def main():
             everything += data + b'fresh\ntx 12 "03E5" 0 0\nrx 12 "03E5" 0\n'
             # with CR LF and a byte order mark it is the same script
             other = b"\xef\xbb\xbf" + data.replace(b"\n", b"\r\n")
-            if told_of(other, lines_of(play(program, other, name))) != told:
+            _, again, _ = look_at_script(f"{name} with CR LF", other, program, refusals, fault)
+            if again != told:
                 fault(name, "other words with CR LF and a byte order mark")
     look_at_refusals(program, refusals, fault)
     look_at_rows(program, pages[3], fault)

@@ -129,6 +129,10 @@ def bad_character(trace):
     return next((f"character {place} is {c:02X}" for place, c in enumerate(trace, 1) if not 0x20 <= c <= 0x7E), None)
 
 
+def ones_in(number):
+    return bin(number).count("1")
+
+
 def parts_of(word):
     """NDF kind, SS and value of a pointer word."""
     return NDF.get(word >> 12, "neither"), word >> 10 & 3, word & 0x3FF
@@ -148,7 +152,7 @@ def asks_for(word, offset):
     if kind != "normal" or ss != 2 or offset == "-" or value == offset:
         return ""
     turned = value ^ offset
-    i_bits, d_bits = (turned & I_BITS).bit_count(), (turned & D_BITS).bit_count()
+    i_bits, d_bits = ones_in(turned & I_BITS), ones_in(turned & D_BITS)
     return "increment" if i_bits >= 3 and d_bits <= 2 else "decrement" if d_bits >= 3 and i_bits <= 2 else ""
 
 
@@ -501,7 +505,7 @@ class Teller:
         place, bits = step.given["place"], step.given["with"]
         name = byte_name(place, self.sent, self.asked)
         name = f": {name}" if name else ""
-        self.touch(f"{counted(bits.bit_count(), 'bit')} of byte {place} turned over (xor {bits:02X}){name}", f"byte {place} xor {bits:02X}{name}")
+        self.touch(f"{counted(ones_in(bits), 'bit')} of byte {place} turned over (xor {bits:02X}){name}", f"byte {place} xor {bits:02X}{name}")
 
     def do_ones(self, step):
         self.sent = None
@@ -835,7 +839,7 @@ def texts(stream):
         raw = stream.readline()
         if not raw:
             return
-        yield raw.decode("utf-8", errors="replace").rstrip("\n").removesuffix("\r")
+        yield raw.decode("utf-8", errors="replace").rstrip("\r\n")
 
 
 def read_file(path, what):
