@@ -17,11 +17,12 @@ mod scripts;
 #[path = "../second/second.rs"]
 mod second;
 
-use bench::Bench;
+use bench::words::next_line;
+use bench::{Bench, Command};
 use proved::c::{Accepted, Defect, Flags, Gathered, Monitor, Parity, Plain, Rows, Run, Settings, Shown, Trace, Watch};
 use random::Random;
 use second::coverage::{Counts, NAMES};
-use second::{Ended, Pointer, Sink, AU4};
+use second::{Asked, Ended, Pointer, Sink, AU4};
 use std::fmt::Write as _;
 
 /// How long a script is. A shorter one would not settle; a longer one starts fresh less often.
@@ -120,8 +121,10 @@ fn meaning(mut p: Plain) -> Plain {
 
 // ---- what a call answers, as the second program's bench prints it, with no sums of bytes: the bytes themselves are compared
 
-fn bits(list: &[bool]) -> String {
-    list.iter().map(|b| if *b { '1' } else { '0' }).collect()
+/// The names of those that stand, as the bench prints them.
+fn names<const N: usize>(list: [(bool, &str); N]) -> String {
+    let those: Vec<&str> = list.iter().filter(|(stands, _)| *stands).map(|(_, name)| *name).collect();
+    if those.is_empty() { "-".to_string() } else { those.join(",") }
 }
 
 fn told(s: &Shown) -> String {
@@ -151,8 +154,16 @@ fn told(s: &Shown) -> String {
         u8::from(a.tsf),
         u8::from(a.ais),
         u8::from(a.rdi),
-        bits(&[d.uneq, d.tim, d.plm, d.rdi]),
-        bits(&[c.ais, c.lop, c.ssf, c.uneq, c.tim, c.rdi, c.plm]),
+        names([(d.uneq, "dUNEQ"), (d.tim, "dTIM"), (d.plm, "dPLM"), (d.rdi, "dRDI")]),
+        names([
+            (c.ais, "cAIS"),
+            (c.lop, "cLOP"),
+            (c.ssf, "cSSF"),
+            (c.uneq, "cUNEQ"),
+            (c.tim, "cTIM"),
+            (c.rdi, "cRDI"),
+            (c.plm, "cPLM"),
+        ]),
         u8::from(s.settled),
         p.total
     );
@@ -391,39 +402,38 @@ impl Load {
         let text = scripts::script(seed, units);
         let mut b = Bench::new();
         let mut card = Card::fresh();
-        let mut out = Vec::new();
-        for (k, line) in bench::lines(text.as_bytes()).enumerate() {
-            self.line = k + 1;
-            out.clear();
-            let word = line.split(|c| *c == b' ').next().unwrap_or(b"");
-            let before = if word == b"src" { b.line.clone() } else { Vec::new() };
-            b.line(line, self.line, &mut out, &mut |name| counts.note(name));
-            let said = String::from_utf8_lossy(&out).into_owned();
-            if said.starts_with('?') {
-                continue;
-            }
-            match word {
-                b"fresh" => card = Card::fresh(),
-                b"fill" | b"lens" => {
-                    card.held = b.held.clone().into();
-                    card.done = b.done.clone().into();
-                }
-                b"src" => {
-                    let asked = match line.last() {
-                        Some(b'i') => 1,
-                        Some(b'd') => 2,
-                        _ => 0,
-                    };
-                    self.source(&mut card, asked, &b, &before, &said);
-                }
-                b"sink" => {
-                    self.units += 1;
-                    self.sink(&mut card, &b, &said);
-                    if self.r.below(8) == 0 {
-                        self.any_state(&b);
+        let mut input = &text[..];
+        let mut line = Vec::new();
+        self.line = 0;
+        while next_line(&mut input, &mut line).expect("it is all there") {
+            self.line += 1;
+            // Call by call, those of a `run` too.
+            for command in b.commands(&line, self.line, &mut |name| counts.note(name)).unwrap_or_default() {
+                let before = if matches!(command, Command::Src(_)) { b.line.clone() } else { Vec::new() };
+                let said = b.play(&command, &mut |name| counts.note(name));
+                match command {
+                    Command::Fresh => card = Card::fresh(),
+                    Command::Fill(..) | Command::Lens(..) => {
+                        card.held = b.held.clone().into();
+                        card.done = b.done.clone().into();
                     }
+                    Command::Src(asked) => {
+                        let asked = match asked {
+                            Asked::Nothing => 0,
+                            Asked::Increment => 1,
+                            Asked::Decrement => 2,
+                        };
+                        self.source(&mut card, asked, &b, &before, &said);
+                    }
+                    Command::Sink => {
+                        self.units += 1;
+                        self.sink(&mut card, &b, &said);
+                        if self.r.below(8) == 0 {
+                            self.any_state(&b);
+                        }
+                    }
+                    _ => {}
                 }
-                _ => {}
             }
         }
     }

@@ -14,11 +14,25 @@ use crate::second::{
 use std::collections::VecDeque;
 use std::fmt::Write as _;
 
-/// "A script is at most 1048576 bytes".
-pub const LONGEST_SCRIPT: usize = 1_048_576;
+// The path is said, since some of the programs that take this file as a module
+// stand beside it and some elsewhere.
+#[path = "words.rs"]
+pub mod words;
+
+use words::{byte, bytes, number, trace};
 
 /// The longest that `len` and `lens` make.
 const LONGEST_BUFFER: u32 = 4096;
+
+/// The most that `run` runs.
+const MOST_RUNS: u32 = 9999;
+
+/// The trace of both ends at the start.
+const START_TRACE: [u8; 15] = *b"03E5           ";
+
+/// The defects and the causes in the order in which the sink answers them.
+const DEFECTS: [&str; 4] = ["dUNEQ", "dTIM", "dPLM", "dRDI"];
+const CAUSES: [&str; 7] = ["cAIS", "cLOP", "cSSF", "cUNEQ", "cTIM", "cRDI", "cPLM"];
 
 /// "32-bit FNV-1a over the bytes".
 pub fn fnv(bytes: &[u8]) -> u32 {
@@ -52,67 +66,22 @@ pub fn hex(bytes: &[u8]) -> String {
     text
 }
 
+/// Those names that hold, "with a comma between", "`-` where none does".
+fn names(list: &[&'static str], hold: &[bool]) -> String {
+    let those: Vec<&str> = list.iter().zip(hold).filter(|(_, holds)| **holds).map(|(name, _)| *name).collect();
+    if those.is_empty() {
+        return "-".to_string();
+    }
+    those.join(",")
+}
+
 // ---------------------------------------------------------------------------
-// Words of a script line
+// The commands
 // ---------------------------------------------------------------------------
 
-/// "A decimal number is 1 to 9 digits (leading zeros allowed)", at most `most`.
-fn number(word: &[u8], most: u32) -> Option<u32> {
-    if word.is_empty() || word.len() > 9 {
-        return None;
-    }
-    let mut sum = 0;
-    for digit in word {
-        if !digit.is_ascii_digit() {
-            return None;
-        }
-        sum = sum * 10 + u32::from(digit - b'0');
-    }
-    (sum <= most).then_some(sum)
-}
-
-fn digit(character: u8) -> Option<u8> {
-    match character {
-        b'0'..=b'9' => Some(character - b'0'),
-        b'A'..=b'F' => Some(character - b'A' + 10),
-        _ => None,
-    }
-}
-
-/// "any even number of capital hex digits"; none of them is the word left out.
-fn bytes(word: &[u8]) -> Option<Vec<u8>> {
-    if word.len() % 2 != 0 {
-        return None;
-    }
-    word.chunks_exact(2)
-        .map(|pair| Some(digit(pair[0])? * 16 + digit(pair[1])?))
-        .collect()
-}
-
-fn byte(word: &[u8]) -> Option<u8> {
-    match bytes(word)?[..] {
-        [one] => Some(one),
-        _ => None,
-    }
-}
-
-fn trace(word: &[u8]) -> Option<[u8; 15]> {
-    bytes(word)?.try_into().ok()
-}
-
-/// The bytes behind a command's name: one word, or none where there are no
-/// bytes.
-fn rest(words: &[&[u8]]) -> Option<Vec<u8>> {
-    match words {
-        [] => Some(Vec::new()),
-        // An empty word is a blank too many.
-        [word] if !word.is_empty() => bytes(word),
-        _ => None,
-    }
-}
-
-/// A command that was understood.
-enum Command {
+/// A command that was understood. `run` is none: it is others, so many times.
+#[derive(Clone)]
+pub enum Command {
     Fresh,
     Fill(u8, u8),
     Lens(usize, usize),
@@ -134,11 +103,33 @@ enum Command {
     Read(Vec<u8>),
 }
 
-/// The command of a line, for a line buffer of this length.
-fn command(line: &[u8], length: usize) -> Option<Command> {
-    let words: Vec<&[u8]> = line.split(|character| *character == b' ').collect();
+/// The bytes behind a command's name: one word, or none where there are no
+/// bytes.
+fn rest(words: &[&[u8]]) -> Option<Vec<u8>> {
+    match words {
+        [] => Some(Vec::new()),
+        [word] => bytes(word),
+        _ => None,
+    }
+}
+
+/// The commands of a line's words, for a line buffer of this length.
+fn commands(words: &[&[u8]], length: usize) -> Option<Vec<Command>> {
+    match words {
+        [] => Some(Vec::new()),
+        // "N times (1 to 9999) `src -` and `sink`"
+        [b"run", times] => match number(times, MOST_RUNS)? {
+            0 => None,
+            times => Some(vec![[Command::Src(Asked::Nothing), Command::Sink]; times as usize].concat()),
+        },
+        [name, words @ ..] => Some(vec![command(name, words, length)?]),
+    }
+}
+
+/// The command of this name with these words behind it.
+fn command(name: &[u8], words: &[&[u8]], length: usize) -> Option<Command> {
     let size = |word: &[u8]| number(word, LONGEST_BUFFER).map(|n| n as usize);
-    Some(match (words[0], &words[1..]) {
+    Some(match (name, words) {
         (b"fresh", []) => Command::Fresh,
         (b"fill", [held, done]) => Command::Fill(byte(held)?, byte(done)?),
         (b"lens", [held, done]) => Command::Lens(size(held)?, size(done)?),
@@ -206,8 +197,8 @@ pub struct Bench {
 }
 
 impl Bench {
-    /// "The bench starts as after `fresh`", with "label 01, 15 spaces, no
-    /// remote defect, 0 violations, flags 0".
+    /// The bench starts as after `fresh`, with "label 12, `03E5` and eleven
+    /// spaces at both ends, no remote defect, 0 violations, flags 0".
     pub fn new() -> Self {
         Bench {
             containers: ContainerSource::fresh(),
@@ -221,7 +212,7 @@ impl Bench {
             last: None,
             ended: Vec::new(),
             given: Given {
-                label: 0x01,
+                label: 0x12,
                 f2: 0x11,
                 h4: 0x22,
                 f3: 0x33,
@@ -230,10 +221,10 @@ impl Bench {
                 violations: 0,
                 remote: false,
             },
-            sent_trace: [b' '; 15],
+            sent_trace: START_TRACE,
             expected: Expected {
-                label: 0x01,
-                trace: [b' '; 15],
+                label: 0x12,
+                trace: START_TRACE,
                 monitored: false,
                 rdi_reported: false,
                 ssf_reported: false,
@@ -242,31 +233,34 @@ impl Bench {
         }
     }
 
-    /// One line of the script, its number counted from 1; what it prints goes
-    /// to `out`.
+    /// One line of the script without its LF, its number counted from 1; what
+    /// it prints goes to `out`.
     pub fn line(&mut self, line: &[u8], count: usize, out: &mut Vec<u8>, note: Note) {
-        // "A line that is empty or holds only blanks is a blank line; a comment
-        // has `#` as its first character."
-        if line.iter().all(|character| *character == b' ') {
-            note("script.blank");
-            return;
-        }
-        if line[0] == b'#' {
-            note("script.comment");
-            return;
-        }
-        let text = match command(line, self.line.len()) {
-            Some(command) => self.run(command, note),
-            None => {
-                note("script.not-understood");
-                format!("? {count}\n")
+        match self.commands(line, count, note) {
+            Some(commands) => {
+                for command in &commands {
+                    out.extend_from_slice(self.play(command, note).as_bytes());
+                }
             }
-        };
-        out.extend_from_slice(text.as_bytes());
+            None => out.extend_from_slice(format!("? {count}\n").as_bytes()),
+        }
     }
 
-    fn run(&mut self, command: Command, note: Note) -> String {
-        match command {
+    /// What a line asks for, as the bench now stands; nothing where it has no
+    /// word, and none where it is not understood.
+    pub fn commands(&self, line: &[u8], count: usize, note: Note) -> Option<Vec<Command>> {
+        let words = words::words(line, count);
+        let understood = words.as_ref().and_then(|words| commands(words, self.line.len()));
+        coverage::line(line, count, words.as_deref(), understood.is_some(), note);
+        if let Some(all @ [Command::Src(_), Command::Sink, ..]) = understood.as_deref() {
+            coverage::runs(all.len() / 2, self.sent_refused().is_some(), self.expected_refused().is_some(), note);
+        }
+        understood
+    }
+
+    /// Plays one command; what it prints.
+    pub fn play(&mut self, command: &Command, note: Note) -> String {
+        match *command {
             Command::Fresh => {
                 // "Settings stay".
                 *self = Bench {
@@ -287,6 +281,11 @@ impl Bench {
             Command::Tx { label, trace, violations, remote } => {
                 self.given = Given { label, violations, remote, ..self.given };
                 self.sent_trace = trace;
+                let refused = self.sent_refused();
+                coverage::sent(refused, &trace, violations, note);
+                if let Some(number) = refused {
+                    return format!("tx refused {number}\n");
+                }
             }
             Command::Rx { label, trace, flags } => {
                 // "flags (1 monitored, 2 RDI reported, 4 SSF reported, 8 AIS
@@ -299,6 +298,11 @@ impl Bench {
                     ssf_reported: flags & 4 != 0,
                     ais_reported: flags & 8 != 0,
                 };
+                let refused = self.expected_refused();
+                coverage::expected(refused, &trace, note);
+                if let Some(number) = refused {
+                    return format!("rx refused {number}\n");
+                }
             }
             Command::Src(asked) => return self.source(asked, note),
             Command::Word(word) => {
@@ -312,28 +316,44 @@ impl Bench {
             Command::Show => return format!("line {}\n", hex(&self.line)),
             Command::Sink => return self.feed(note),
             Command::Payload(ais) => return self.payload(ais, note),
-            Command::Cat(bytes) => return catalogue(&bytes, note),
-            Command::Lookup(circuit, bytes) => return lookup(circuit, &bytes, note),
-            Command::List(bytes) => {
-                note(if second::catalogue_check(&bytes).is_ok() { "list.listed" } else { "list.refused" });
+            Command::Cat(ref bytes) => return catalogue(bytes, note),
+            Command::Lookup(circuit, ref bytes) => return lookup(circuit, bytes, note),
+            Command::List(ref bytes) => {
+                note(if second::catalogue_check(bytes).is_ok() { "list.listed" } else { "list.refused" });
                 // Characters from 20 to 7E only.
-                return String::from_utf8_lossy(&second::listing(&bytes)).into_owned();
+                return String::from_utf8_lossy(&second::listing(bytes)).into_owned();
             }
-            Command::Parity(bytes) => {
+            Command::Parity(ref bytes) => {
                 note("parity.asked");
-                return format!("parity {:02X}\n", second::parity(&bytes));
+                return format!("parity {:02X}\n", second::parity(bytes));
             }
-            Command::Check(bytes) => {
-                let good = second::trace_check(&bytes);
+            Command::Check(ref bytes) => {
+                let good = second::trace_check(bytes);
                 note(if good { "check.yes" } else { "check.no" });
                 return format!("check {}\n", u8::from(good));
             }
-            Command::Read(bytes) => {
+            Command::Read(ref bytes) => {
                 note(if bytes.len() == 2 { "read.asked" } else { "read.not-two-bytes" });
-                return format!("read {}\n", second::word_reading(&bytes));
+                return format!("read {}\n", second::word_reading(bytes));
             }
         }
         String::new()
+    }
+
+    /// The number by which every call with these settings will be refused: the
+    /// one by which a fresh source refuses that lacks nothing else.
+    fn sent_refused(&self) -> Option<u8> {
+        let payload = vec![0x00; AU4.payload()];
+        let mut container = vec![0x00; AU4.container()];
+        let source = ContainerSource::fresh();
+        second::container_source(AU4, source, self.given, &self.sent_trace, &payload, &mut container).err()
+    }
+
+    /// The same of the sink's settings.
+    fn expected_refused(&self) -> Option<u8> {
+        let unit = vec![0x00; AU4.unit()];
+        let (mut held, mut done) = (vec![0x00; AU4.container()], vec![0x00; AU4.container()]);
+        second::sink(AU4, &Sink::fresh(), &self.expected, &unit, &mut held, &mut done, &mut |_| {}).err()
     }
 
     fn source(&mut self, asked: Asked, note: Note) -> String {
@@ -394,7 +414,7 @@ impl Bench {
             Pointer::Alarm => ("alarm", "-".to_string()),
             Pointer::Lost => ("lost", "-".to_string()),
         };
-        coverage::fed(self.sink.pointer.state, note);
+        coverage::fed(self.sink.pointer.state, &answer.defects, note);
         let ended = answer.ended.len();
         let _ = write!(text, "ok st={state} off={offset} held={} ended={ended}", self.sink.held);
         for (count, Ended { place, violations, returned }) in answer.ended.iter().enumerate() {
@@ -411,19 +431,14 @@ impl Bench {
         self.ended = answer.ended;
         let _ = write!(
             text,
-            " ssf={} tsf={} ais={} rdi={} d=",
+            " ssf={} tsf={} ais={} rdi={} d={} cause={}",
             bit(answer.ssf),
             bit(answer.tsf),
             bit(answer.ais),
-            bit(answer.rdi)
+            bit(answer.rdi),
+            names(&DEFECTS, &answer.defects),
+            names(&CAUSES, &answer.causes)
         );
-        for defect in answer.defects {
-            let _ = write!(text, "{}", bit(defect));
-        }
-        text.push_str(" cause=");
-        for cause in answer.causes {
-            let _ = write!(text, "{}", bit(cause));
-        }
         let _ = writeln!(
             text,
             " settled={} total={} hb={:08X} db={:08X}",
@@ -467,13 +482,6 @@ fn lookup(circuit: u32, bytes: &[u8], note: Note) -> String {
         Ok(record) => format!("found {:02X} {} {}\n", record.label, hex(&record.trace), record.flags),
         Err(refusal) => format!("lookup refused {}{}\n", refusal.number, places(&refusal)),
     }
-}
-
-/// The lines of a script: LF ends each, and "The last line may lack its LF".
-pub fn lines(script: &[u8]) -> impl Iterator<Item = &[u8]> {
-    script
-        .split_inclusive(|character| *character == b'\n')
-        .map(|line| line.strip_suffix(b"\n").unwrap_or(line))
 }
 
 #[cfg(test)]

@@ -58,30 +58,38 @@ fn lookup_text(bytes: &[u8], circuit: u32) -> String {
     }
 }
 
-/// A script from standard input run line by line; at its end, where asked, the
+/// Standard output's fault, said as one.
+fn unwritten(error: io::Error) -> io::Error {
+    io::Error::new(error.kind(), format!("standard output cannot be written: {error}"))
+}
+
+/// All of these bytes on standard output, there before this ends.
+fn say(bytes: &[u8]) -> io::Result<()> {
+    let mut output = io::stdout().lock();
+    output.write_all(bytes).and_then(|()| output.flush()).map_err(unwritten)
+}
+
+/// A script from standard input, each line played when its LF has come and
+/// what it prints written before the next is read; at the end, where asked, the
 /// count of each rule's cases on standard error.
 fn bench(rules: bool) -> io::Result<()> {
-    let mut script = Vec::new();
-    let most = bench::LONGEST_SCRIPT as u64 + 1;
-    io::stdin().lock().take(most).read_to_end(&mut script)?;
-    let mut output = io::BufWriter::new(io::stdout().lock());
+    let mut input = io::stdin().lock();
     let mut counts = second::coverage::Counts::new();
-    if script.len() > bench::LONGEST_SCRIPT {
-        writeln!(output, "script above {} bytes", bench::LONGEST_SCRIPT)?;
-    } else {
-        let mut path = bench::Bench::new();
-        let mut said = Vec::new();
-        for (index, line) in bench::lines(&script).enumerate() {
-            if rules {
-                path.line(line, index + 1, &mut said, &mut |name| counts.note(name));
-            } else {
-                path.line(line, index + 1, &mut said, &mut |_| {});
-            }
-            output.write_all(&said)?;
+    let mut path = bench::Bench::new();
+    let (mut line, mut said) = (Vec::new(), Vec::new());
+    let mut count = 0;
+    while bench::words::next_line(&mut input, &mut line)? {
+        count += 1;
+        if rules {
+            path.line(&line, count, &mut said, &mut |name| counts.note(name));
+        } else {
+            path.line(&line, count, &mut said, &mut |_| {});
+        }
+        if !said.is_empty() {
+            say(&said)?;
             said.clear();
         }
     }
-    output.flush()?;
     if rules {
         io::stderr().lock().write_all(counts.text().as_bytes())?;
     }
@@ -120,9 +128,7 @@ fn run() -> io::Result<ExitCode> {
     let arguments: Vec<&str> = arguments.iter().map(String::as_str).collect();
     match answer(&arguments)? {
         Some(text) => {
-            let mut output = io::stdout().lock();
-            output.write_all(&text)?;
-            output.flush()?;
+            say(&text)?;
             Ok(ExitCode::SUCCESS)
         }
         None => {
