@@ -5,15 +5,17 @@
 
 PROGRAM with its ARGS reads a script of the bench on standard input: `target/host/second bench`, or
 `target/bin/bench`. Each lessons/NAME.bench is played and must print lessons/NAME.out; the first line
-that differs is printed with its number. Then the scripts themselves are looked at. Four comments of a
+that differs is printed with its number. Then the scripts themselves are looked at. Five comments of a
 script are read by this test:
 
-    # see: WORDS          behind a command: the words stand in the line that it printed last, in this order (`c=U@9,F,v=0,fe=0` is four words)
-    # row P1: ..          the unit up to the next `sink` has the word of that row of 01's table; ROWS says what must follow
+    # see: WORDS          behind a command, on its line or the next: the words stand in the line that it printed last, in this order
+                          (`c=U@9,F,v=0,fe=0` is four words; `d=dTIM,dPLM` is one)
+    # row P1: ..          the unit that is fed next has the word of that row of the pointer table; ROWS says what must follow
     # not understood: ..  the next line prints `? N`; no other line may
     # Question: and # Answer:   one of each, and the same question stands in lessons/README.md
+    # Rules in docs/CARD.md: ..   one; each number in it is a rule of that page
 
-Links of lessons/README.md and docs/GLOSSARY.md must lead to files that are there, and a definition that
+lessons/README.md says of each lesson how many lines are to be typed; its minutes are an hour at most. Links of lessons/README.md and docs/GLOSSARY.md must lead to files that are there, and a definition that
 is named behind one must stand in its file.
 """
 
@@ -22,18 +24,21 @@ import re
 import sys
 
 sys.dont_write_bytecode = True  # no folder beside the tests
-from playing import play
+from playing import play, read_line, refused_at_once
 
 ROOT = os.path.dirname(os.path.dirname(os.path.abspath(__file__)))
 FOLDER = os.path.join(ROOT, "lessons")
+CARD = "docs/CARD.md"
+HOUR = 60  # minutes for all of them
 PAGES = ("lessons/README.md", "docs/GLOSSARY.md")
 PRINTING = ("src", "sink", "show", "payload", "cat", "lookup", "list", "parity", "check", "read")
+SETTINGS = ("tx", "rx")
 HEADING = "circuit label trace flags"
 RECORD = 42  # hex digits of a catalogue's record
 TOP = 782
 
-# 01, "Pointer words and units on both sides": offset before, word, how it is taken, offset after. Then by "Containers out of a
-# unit" how many end in it. P2b is the "run only" sentence on P2 with two units since the last adjustment.
+# The pointer table: offset before, word, how it is taken, offset after; then how many containers end in the unit. The wait has passed,
+# the state is normal, the word is the first of its run and row. P2b is P2 with two units since the last adjustment.
 ROWS = {
     "P1": (0, 0x6800, "plain", 0, 1),
     "P2": (0, 0x6AAA, "increment", 1, 0),
@@ -50,7 +55,7 @@ ROWS = {
     "P12": (5, 0x1801, "new data", 1, 0),
 }
 # Lessons that more is asked of than that they print what is kept
-STEPS, TOGETHER, MOST = "05-none-one-or-two", "07-two-causes", "13-exactly-66"
+STEPS, TOGETHER, MOST, NOTHING = "05-none-one-or-two", "07-two-causes", "13-exactly-66", "14-unequipped"
 
 
 class Shown:
@@ -95,49 +100,65 @@ def how_many(command, argument, first):
 
 
 def pair(name, script, printed, fault):
-    """Each command that prints, with its lines."""
+    """Each command that prints, with its lines; a `run` as the commands that it stands for."""
     said, shown, word = list(printed), [], None
     for number, line in enumerate(script, 1):
-        if not line.strip() or line.startswith("#"):
-            continue
-        command, *arguments = line.split(" ")
+        words, _ = read_line(line)
         if said and said[0] == f"? {number}":
             shown.append(Shown(number, "?", [said.pop(0)]))
             continue
+        if not words:
+            continue
+        command = words[0]
         if command == "word":
-            word = int(arguments[0], 16)
+            word = int(words[1], 16)
         elif command == "ones":
             word = 0xFFFF
-        if command not in PRINTING:
-            continue
-        if not said:
-            fault(f"{name}.bench:{number}", f"`{line}` prints nothing")
-            return shown
-        count = how_many(command, arguments[-1] if arguments else "", said[0])
-        one = Shown(number, command, said[:count], word if command == "sink" else None)
-        del said[:count]
-        shown.append(one)
-        if command == "src" and one.field("word"):
-            word = int(one.field("word"), 16)
+        elif command in SETTINGS:
+            due = refused_at_once(words)
+            if due and said[:1] == [due]:
+                shown.append(Shown(number, command, [said.pop(0)]))
+            elif due:
+                fault(f"{name}.bench:{number}", f"`{line}` must print {due} at once")
+        for command in ("src", "sink") * int(words[1]) if command == "run" else (command,) if command in PRINTING else ():
+            if not said:
+                fault(f"{name}.bench:{number}", f"`{line}` prints nothing, or too little")
+                return shown
+            count = how_many(command, words[-1], said[0])
+            one = Shown(number, command, said[:count], word if command == "sink" else None)
+            del said[:count]
+            shown.append(one)
+            if command == "src" and one.field("word"):
+                word = int(one.field("word"), 16)
     for line in said:
         fault(f"{name}.bench", f"one line more is printed: {line}")
     return shown
 
 
+def commands(script):
+    """What a script does, as words, each `run` told call by call."""
+    told = []
+    for words in (read_line(line)[0] for line in script):
+        if words:
+            told += [["src", "-"], ["sink"]] * int(words[1]) if words[0] == "run" else [words]
+    return told
+
+
 # ---- the comments that are read
 
 def look_at_claims(lesson, fault):
-    """`# see:` is true of what was printed last."""
+    """`# see:` is true of what was printed last: by the command before it on its line, or by any before it."""
     for number, line in enumerate(lesson.script, 1):
-        if not line.startswith("# see:"):
+        words, comment = read_line(line)
+        if not comment.startswith("# see:"):
             continue
-        before = [one for one in lesson.shown if one.number < number]
+        before = [one for one in lesson.shown if (one.number == number if words else one.number < number)]
         if not before:
-            fault(f"{lesson.name}.bench:{number}", "nothing was printed before this line")
+            fault(f"{lesson.name}.bench:{number}", "nothing was printed that could be seen here")
             continue
         last = before[-1].lines[-1]
-        words = iter(re.split("[ ,]+", last))
-        for claim in line[len("# see:"):].split():
+        words = iter(part for word in last.split() for part in (word.split(",") if word.startswith("c=") else [word]))
+        for claim in comment[len("# see:"):].split():
             if claim not in words:  # looks no further than the claim's word, so that the next must come behind it
                 fault(f"{lesson.name}.bench:{number}", f"{claim} is not there, or not in this order: {last}")
                 break
@@ -151,8 +172,19 @@ def look_at_questions(lesson, page, fault):
     for line in lesson.script:
         if line.startswith("# Question: ") and line[len("# Question: "):] not in page:
             fault("lessons/README.md", f"the question of {lesson.name} is not there: {line}")
-    if f"]({lesson.name}.bench)" not in page:
-        fault("lessons/README.md", f"{lesson.name}.bench is not linked")
+    typed = sum(bool(read_line(line)[0]) for line in lesson.script)
+    if f"]({lesson.name}.bench) | [out]({lesson.name}.out) | {typed} |" not in page:
+        fault("lessons/README.md", f"{lesson.name}.bench is not linked with its .out and its {typed} lines to type")
+
+
+def look_at_rules(lesson, card, fault):
+    """The rules that a lesson names are there."""
+    named = [line for line in lesson.script if line.startswith(f"# Rules in {CARD}: ")]
+    if len(named) != 1:
+        fault(f"{lesson.name}.bench", "there is not one line with its rules")
+    for number in re.findall(r"\d+\.\d+", " ".join(named)):
+        if f'<a id="r{number.replace(".", "-")}">' not in card:
+            fault(f"{lesson.name}.bench", f"{CARD} has no rule {number}")
 
 
 def look_at_strange_lines(lesson, fault):
@@ -198,7 +230,7 @@ def look_at_row(lesson, marker, row, fault):
     found = here.field("st"), here.field("off"), here.field("ended")
     if found != ("normal", str(after), str(ended)):
         fault(place, f"{row} is {taken}: normal, offset {after}, {ended} ended; printed: {here.lines[-1]}")
-    # "Wait passed, state normal, the word the first of its run and row"
+    # the wait has passed, and the word is the first of its run and row
     since = units_since(earlier)
     if (since != 2) if row == "P2b" else (since < 3):
         fault(place, f"{since} units since the last adjustment")
@@ -215,7 +247,7 @@ def look_at_row(lesson, marker, row, fault):
             fault(place, f"{row} is {taken}; the seven units after it end {' '.join(states)}")
 
 
-def look_at_rows(lessons, fault):
+def look_at_rows(lessons, page, fault):
     met = {}
     for lesson in lessons:
         for number, line in enumerate(lesson.script, 1):
@@ -232,6 +264,9 @@ def look_at_rows(lessons, fault):
     for row in ROWS:
         if len(met.get(row, [])) != 1:
             fault("lessons", f"row {row} has {len(met.get(row, []))} lessons")
+        before, word, *_ = ROWS[row]
+        if not any(f"]({name}.bench)" in line and f"| {before}, {word:04X}" in line for name in met.get(row, []) for line in page.splitlines()):
+            fault("lessons/README.md", f"{row} has no row that begins with {before}, {word:04X}")
 
 
 # ---- single lessons
@@ -243,8 +278,15 @@ def look_at_steps(lesson, fault):
 
 
 def look_at_together(lesson, fault):
-    if not any(one.field("cause") == "0000011" for one in lesson.sinks()):
+    if not any(one.field("cause") == "cRDI,cPLM" for one in lesson.sinks()):
         fault(f"{lesson.name}.bench", "no unit has cRDI and cPLM and no other cause")
+
+
+def look_at_nothing(lesson, fault):
+    if not any(one.field("cause") == "cUNEQ" for one in lesson.sinks()):
+        fault(f"{lesson.name}.bench", "no unit has cUNEQ and no other cause")
+    if any(",v=" in one.lines[-1] and ",v=0" not in one.lines[-1] for one in lesson.sinks()):
+        fault(f"{lesson.name}.bench", "a container has violations")
 
 
 def look_at_most(lesson, fault):
@@ -254,8 +296,8 @@ def look_at_most(lesson, fault):
         unsettled = sum(settled == "0" for settled, _ in told)
         fault(place, f"{unsettled} of {len(told)} units end unsettled, not the first 66 of 67, or the total is another")
     with open(os.path.join(ROOT, "examples", "settling", "worst.bench"), encoding="ascii") as file:
-        worst = [line for line in file.read().splitlines() if not line.startswith("#")]
-    if [line for line in lesson.script if not line.startswith("#")] != worst:
+        worst = file.read().split("\n")
+    if commands(lesson.script) != commands(worst):
         fault(place, "its commands are not those of examples/settling/worst.bench")
 
 
@@ -286,7 +328,7 @@ def lesson_of(program, name, fault):
         fault(f"{name}.bench", "it does not open with a comment, does not end with LF, or is not ASCII")
     printed = play(program, text, name)
     compare(name, printed, read(f"lessons/{name}.out"), fault)
-    script = text.decode(errors="replace").splitlines()
+    script = text.decode(errors="replace").split("\n")
     return Lesson(name, script, pair(name, script, printed.decode(errors="replace").splitlines(), fault))
 
 
@@ -309,14 +351,18 @@ def main():
     for name in sorted(scripts ^ kept):
         fault(name, "a script without its .out, or the other way round")
     lessons = [lesson_of(program, name, fault) for name in sorted(scripts & kept)]
-    pages = {page: read(page).decode() for page in PAGES}
+    pages, card = {page: read(page).decode() for page in PAGES}, read(CARD).decode()
     for lesson in lessons:
         look_at_claims(lesson, fault)
         look_at_strange_lines(lesson, fault)
         look_at_questions(lesson, pages[PAGES[0]], fault)
-    look_at_rows(lessons, fault)
+        look_at_rules(lesson, card, fault)
+    look_at_rows(lessons, pages[PAGES[0]], fault)
+    minutes = sum(int(said) for said in re.findall(r"^\*\*.*\*\* \((\d+)\)$", pages[PAGES[0]], re.MULTILINE))
+    if not 0 < minutes <= HOUR:
+        fault(PAGES[0], f"the lessons take {minutes} minutes")
     by_name = {lesson.name: lesson for lesson in lessons}
-    for name, look in ((STEPS, look_at_steps), (TOGETHER, look_at_together), (MOST, look_at_most)):
+    for name, look in ((STEPS, look_at_steps), (TOGETHER, look_at_together), (MOST, look_at_most), (NOTHING, look_at_nothing)):
         if name in by_name:
             look(by_name[name], fault)
         else:

@@ -1,10 +1,12 @@
-"""A script played on a program that speaks the bench's language, for the tests that read what is printed."""
+"""A script played on a program that speaks the bench's language, and its lines read, for the tests that read what is printed."""
 
 import os
+import re
 import subprocess
 import sys
 
 LIMIT = 120  # seconds for one run of one program
+WORD = re.compile(r'"(?:[^"]|"")*"(?= |$)|[^ "#][^ ]*')
 
 
 def run(command, given=b"", env=None):
@@ -21,3 +23,29 @@ def play(command, script, name):
     if done.returncode != 0:
         sys.exit(f"{os.path.basename(sys.argv[0])}: {name}: {command[0]} ended with {done.returncode}: {done.stderr.decode(errors='replace')[-2000:]}")
     return done.stdout
+
+
+def read_line(line):
+    """The words of a script's line, a trace in quotes being one, and its comment from the `#` on ("" where it has none).
+    The words are none where a quote does not end as it must."""
+    words, rest = [], line.removesuffix("\r").strip(" ")
+    while rest and not rest.startswith("#"):
+        found = WORD.match(rest)
+        if not found:
+            return None, ""
+        words.append(found.group())
+        rest = rest[found.end():].lstrip(" ")
+    return words, rest
+
+
+def trace_of(word):
+    """The fifteen bytes of a trace in quotes, or of thirty hex digits."""
+    return word[1:-1].replace('""', '"').encode().ljust(15) if word.startswith('"') else bytes.fromhex(word)
+
+
+def refused_at_once(words):
+    """What a `tx` or `rx` that is understood prints: `tx refused N`, or none."""
+    label, trace = int(words[1], 16), trace_of(words[2])
+    number = (4 if label in (0x00, 0xFF) else 5 if any(not 0x20 <= byte <= 0x7E for byte in trace)
+              else 6 if words[0] == "tx" and int(words[3]) > 8 else None)
+    return f"{words[0]} refused {number}" if number else None

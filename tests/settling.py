@@ -11,6 +11,7 @@ ones that the source says ended since the sink was fed last (containers are made
 after docs/BENCH.md, and compared by their FNV), violations, defects, calls that are refused.
 Nothing else may break. A run that drops nothing must be as the statement says, one that drops
 something must break it. The printed total must be the number of settled=0 lines since `fresh`.
+docs/SETTLING.md shows the last two units of the worst run.
 
 Where BENCH, the proved bench, is given, it must print what SECOND prints.
 """
@@ -20,12 +21,14 @@ import re
 import sys
 
 sys.dont_write_bytecode = True  # no folder beside the tests
-from playing import play
+from playing import play, read_line, refused_at_once, trace_of
 
 ROOT = os.path.dirname(os.path.dirname(os.path.abspath(__file__)))
 FOLDER = os.path.join(ROOT, "examples", "settling")
+PAGE = "docs/SETTLING.md"
 MOST = 66
-PLAIN = "0000"
+PLAIN = "-"
+RUN = "# the run"
 
 
 def all_of(first, last):
@@ -45,16 +48,16 @@ TABLE = {
     "worst": [run([], 67, all_of(1, 66), handed={3: [], 4: [17], 9: [22], 12: [25], 13: [], 14: [26], 20: [32], 67: [79]})],
     "under_way": [run([], 67, all_of(1, 66), handed={3: [], 4: [17], 13: [], 67: [79]})],
     "early_adjustment": [run(["quiet"], 300, all_of(1, 300), wrong=[unit for unit in all_of(67, 300) if (unit - 71) % 8 > 1],
-                             defects=dict.fromkeys(all_of(67, 300), "0100"))],
-    "late_lock": [run(["quiet"], 70, all_of(1, 69), defects=dict.fromkeys(all_of(67, 69), "0100"),
+                             defects=dict.fromkeys(all_of(67, 300), "dTIM"))],
+    "late_lock": [run(["quiet"], 70, all_of(1, 69), defects=dict.fromkeys(all_of(67, 69), "dTIM"),
                       handed={6: [], 7: [17], 13: [], 70: [79]})],
-    "too_close": [run(["apart"], 71, all_of(1, 63), wrong=[70], violations={71: 3}, refused=["unit refused 7"],
+    "too_close": [run(["apart"], 71, all_of(1, 63), wrong=[70], violations={71: 5}, refused=["unit refused 7"],
                       handed={67: [], 68: [66], 69: [67], 70: [None], 71: [68]})],
-    "other_label": [run(["label"], 80, all_of(1, 80), defects=dict.fromkeys(all_of(67, 80), "0010"))],
-    "other_trace": [run(["trace"], 80, all_of(1, 80), defects=dict.fromkeys(all_of(67, 80), "0100"))],
-    "remote_defect": [run(["remote"], 80, all_of(1, 80), defects=dict.fromkeys(all_of(67, 80), "0001"))],
-    "settings_changed": [run(["settings"], 74, [*all_of(1, 63), *all_of(67, 71)], defects=dict.fromkeys(all_of(67, 71), "0010"))],
-    "buffers_not_kept": [run(["kept"], 68, all_of(1, 63), wrong=[67], violations={67: 5, 68: 6}, handed={66: [65], 67: [None], 68: [67]})],
+    "other_label": [run(["label"], 80, all_of(1, 80), defects=dict.fromkeys(all_of(67, 80), "dPLM"))],
+    "other_trace": [run(["trace"], 80, all_of(1, 80), defects=dict.fromkeys(all_of(67, 80), "dTIM"))],
+    "remote_defect": [run(["remote"], 80, all_of(1, 80), defects=dict.fromkeys(all_of(67, 80), "dRDI"))],
+    "settings_changed": [run(["settings"], 74, [*all_of(1, 63), *all_of(67, 71)], defects=dict.fromkeys(all_of(67, 71), "dPLM"))],
+    "buffers_not_kept": [run(["kept"], 68, all_of(1, 63), wrong=[67], violations={67: 3, 68: 2}, handed={66: [65], 67: [None], 68: [67]})],
     "wrong_lengths": [run(["lengths"], 1, refused=["refused 3"])] * 2,
     "refused_label": [run(["label-fine"], 1, refused=["container refused 4", "refused 4"])] * 2,
     "refused_trace": [run(["trace-fine"], 1, refused=["container refused 5", "refused 5"])] * 2,
@@ -63,7 +66,7 @@ TABLE = {
     "cut_unit": [run(["line"], 1, refused=["refused 1"])],
     "lost_unit": [run(["successive"], 67, all_of(1, 63), wrong=[67], violations={67: 1}, handed={66: [65], 67: [67]})],
     "repeated_unit": [run(["successive"], 69, all_of(1, 63), wrong=[68], violations={68: 1}, handed={67: [66], 68: [66], 69: [67]})],
-    "lost_units": [run(["successive"], 94, all_of(1, 94), defects=dict.fromkeys(all_of(67, 94), "0100"), handed={47: [46], 48: [48]})],
+    "lost_units": [run(["successive"], 94, all_of(1, 94), defects=dict.fromkeys(all_of(67, 94), "dTIM"), handed={47: [46], 48: [48]})],
 }
 
 
@@ -116,8 +119,8 @@ class Sender:
             self.number[self.queue[-1]] = self.seed - 1
 
 
-SINK = re.compile(r"ok st=\w+ off=[-\d]+ held=\d+ ended=(\d)((?: c=\S+)*) ssf=\d tsf=\d ais=\d rdi=\d d=(\d{4}) "
-                  r"cause=\d{7} settled=([01]) total=(\d+) hb=\w{8} db=\w{8}")
+SINK = re.compile(r"ok st=\w+ off=[-\d]+ held=\d+ ended=(\d)((?: c=\S+)*) ssf=\d tsf=\d ais=\d rdi=\d d=([\w,]+|-) "
+                  r"cause=(?:[\w,]+|-) settled=([01]) total=(\d+) hb=\w{8} db=\w{8}")
 UNIT = re.compile(r"unit ended=(\d) word=\w{4} fnv=\w{8} off=\d+")
 
 
@@ -142,16 +145,31 @@ def settings_dropped(tx, rx):
             yield name
 
 
+def calls(script, fault):
+    """The script's commands as words, each with the number of its line; a `run` is told call by call, and RUN where a run begins."""
+    for number, line in enumerate(script, 1):
+        words, comment = read_line(line)
+        if words is None:
+            fault(number, f"this test does not understand {line}")
+        elif words and words[0] == "run":
+            for _ in range(int(words[1])):
+                yield number, ["src", "-"]
+                yield number, ["sink"]
+        elif words:
+            yield number, words
+        elif comment.startswith(RUN):
+            yield number, [RUN]
+
+
 def look(script, printed, fault):
     """The runs of a script with what is seen of each; `fault` is told a line's number and what is wrong there."""
     said = iter(printed)
-    tx, rx = (0x01, b" " * 15, 0, 0), (0x01, b" " * 15)
+    tx, rx = (0x12, b"03E5".ljust(15), 0, 0), (0x12, b"03E5".ljust(15))
     sender, total, runs, seen = Sender(), 0, [], None
     lengths = [2349, 2349]
     fed, pending = True, []  # was the line fed to the sink; the containers that ended since it was
-    for number, line in enumerate(script, 1):
-        words = line.split(" ")
-        if line.startswith("# the run"):
+    for number, words in calls(script, fault):
+        if words[0] == RUN:
             seen = Seen(number)
             runs.append(seen)
             seen.broken.update(settings_dropped(tx, rx))
@@ -159,12 +177,10 @@ def look(script, printed, fault):
                 seen.broken.add("lengths")
             fed, pending = True, []
             continue
-        if not line.strip() or line.startswith("#"):
-            continue
         if words[0] == "tx":
-            tx = int(words[1], 16), bytes.fromhex(words[2]), int(words[3]), int(words[4])
+            tx = int(words[1], 16), trace_of(words[2]), int(words[3]), int(words[4])
         elif words[0] == "rx":
-            rx = int(words[1], 16), bytes.fromhex(words[2])
+            rx = int(words[1], 16), trace_of(words[2])
         elif words[0] == "lens":
             lengths = [int(words[1]), int(words[2])]
         elif words[0] not in ("src", "sink", "fill", "word", "xor", "ones", "len"):
@@ -173,9 +189,13 @@ def look(script, printed, fault):
             dropped = {"tx": "settings", "rx": "settings", "lens": "kept", "fill": "kept",
                        "word": "line", "xor": "line", "ones": "line", "len": "line"}.get(words[0])
             # settings between two runs belong to the next
-            later = any(other.startswith("# the run") for other in script[number:])
+            later = any(other.startswith(RUN) for other in script[number:])
             if dropped and not (later and words[0] in ("tx", "rx", "lens")):
                 seen.broken.add(dropped)
+        if words[0] in ("tx", "rx") and refused_at_once(words):
+            answer = next(said, "(no line)")
+            if answer != refused_at_once(words):
+                fault(number, f"{refused_at_once(words)} must be printed at once, not {answer}")
         if words[0] not in ("src", "sink"):
             continue
         answer = next(said, "(no line)")
@@ -313,7 +333,7 @@ def main():
             continue
         with open(os.path.join(FOLDER, f"{name}.bench"), "rb") as file:
             text = file.read()
-        script = text.decode().splitlines()
+        script = text.decode().split("\n")
         if not script[0].startswith("# "):
             complain(f"{name}.bench:1", "the first line is no comment")
         printed = play([second, "bench"], text, name).decode(errors="replace").splitlines()
@@ -325,6 +345,12 @@ def main():
                     break
             if len(proved) != len(printed):
                 complain(name, f"the bench prints {len(proved)} lines, the second program {len(printed)}")
+
+        if name == "worst":
+            last = [line for line in printed if line.startswith("ok ")][-2:]
+            with open(os.path.join(ROOT, PAGE), encoding="utf-8") as file:
+                if [line.strip() for line in file if line.startswith("    ok ")] != last:
+                    complain(PAGE, f"it does not show the last two units of the worst run: {' / '.join(last)}")
 
         def told(number, what, name=name):
             complain(f"{name}.bench:{number}", what)
