@@ -4,8 +4,8 @@
 Usage: holes.py
 
 The repository is copied to a temporary folder and spoiled there: determinacy theorems that read nothing, too little or another function's contract,
-public functions of shapes that no page can name, names that are not there, pages and pictures that are no longer what they are made from, statements
-that come to what only proofs may need. The four tests below are run on it, and each trial must be said, in a line that has all the words that stand
+public functions of shapes that no page can name, rules without a number, a row or a definition, rules and names that are not there, pages and pictures
+that are no longer what they are made from, statements that come to what only proofs may need. The four tests below are run on it, and each trial must be said, in a line that has all the words that stand
 beside it. A trial that stops the reading is made alone. What went wrong is printed, then a summary; the status is 1 where anything did.
 """
 import collections
@@ -33,6 +33,19 @@ def public(file, new, *words):
 
 def allowed(file, new):
     return Trial(f"crates/{file}", None, new, [], [f"crates/{file}:"])
+
+
+def ruled(old, new, *words):
+    return Trial("docs/CARD.md", old, new, [RULES], ["docs/CARD.md:", *words])
+
+
+def rowed(old, new, *words):
+    return Trial("docs/RULES.md", old, new, [RULES], words)
+
+
+def named(file, new, *words):
+    """A rule named on another page; no fault where there are no words."""
+    return Trial(file, None, new, [RULES] if words else [], [f"{file}:", *words])
 
 
 PEEK = "use Prim.Native.Nat.{ℕ}\npub peek : ℕ\npeek = 0\n"
@@ -97,7 +110,47 @@ TRIALS = [
     allowed("settings/src/lib.rt", "\n// pub fn peek() {}\nstruct Peek {\n    pub at: u8, // pub\n}\nfn peek() {}\n"),
     allowed("bench/src/say.rt", "\npub fn peek() {}\n"),
     allowed("bench/src/inner.rt", "impl Peek {\n    pub fn peek(self) {}\n}\n"),
-    # the rules: a name that is not there, one in brackets, one that the index has not; one that no table has
+    # the card: an item, and a row, without a number; no words; another rule's anchor; a number twice, one left out, one of another section; one cell too many
+    ruled("- <a id=\"r1-2\">1.2</a> It leaves", "- It leaves", "'- It leaves", "begins with its number"),
+    ruled("| <a id=\"r9-5\">9.5</a> | RDI", "| 9.5 | RDI", "'| 9.5 | RDI", "begins with its number"),
+    ruled("<a id=\"r2-11\">2.11</a> A value is in range from 0 to 782.", "<a id=\"r2-11\">2.11</a>", "2.11</a>'", "has words behind it"),
+    ruled("<a id=\"r17-2\">17.2</a>", "<a id=\"r17-9\">17.2</a>", "rule 17.2 has the anchor of 17.9"),
+    ruled("<a id=\"r16-3\">16.3</a>", "<a id=\"r16-2\">16.2</a>", "rule 16.2 comes behind 16.2"),
+    ruled("<a id=\"r18-3\">18.3</a>", "<a id=\"r18-4\">18.4</a>", "rule 18.4 comes behind 18.2"),
+    ruled("<a id=\"r10-3\">10.3</a>", "<a id=\"r9-15\">9.15</a>", "rule 9.15 stands in section 10"),
+    ruled("| TSF | with SSF, dUNEQ or dTIM |", "| TSF | with SSF, dUNEQ or dTIM | |", "a row of 4 cells under 3 headings"),
+    # an anchor elsewhere; a section's number; a rule that is not there, and a link; a pointer word, and a refusal, that the definitions have not
+    ruled("Bit 1 of a byte", "<a id=\"bit\">Bit 1</a> of a byte", "Bit 1 has an anchor, and begins no item"),
+    ruled("## 14. The calls", "## 41. The calls", "the heading of section 14 is"),
+    ruled("after a clearing (6.6)", "after a clearing (6.66)", "there is no rule 6.66"),
+    ruled("[GLOSSARY.md](GLOSSARY.md)", "[GLOSSARY.md](GLOSSARY.md#peek)", "GLOSSARY.md#peek: no such heading or anchor"),
+    ruled("| 0 | 6AAA | increment | 1 |", "| 0 | 6AAB | increment | 1 |", "the row should say P2, 0, 6AAA, increment, 1"),
+    ruled("| <a id=\"r15-12\">15.12</a> | P12 | 5 | 1801 | new data | 1 |", "- <a id=\"r15-12\">15.12</a> P12", "11 rows of the pointer table, and 12 that are proved"),
+    Trial("crates/records/specs/Refusals.antt", "catalogueNumber NotListed = 14", "catalogueNumber NotListed = 15", [RULES],
+          ["docs/CARD.md:", "refusal 15 of the definitions has no rule 12.15"]),
+    ruled("| a circuit that is not in the catalogue | |", "| a circuit that is not in the catalogue | |\n| <a id=\"r12-16\">12.16</a> | a peek | |",
+          "rule 12.16 is about a refusal that no definition gives"),
+    # a rule with no row; and what is wrong with rows: no number, a rule that is not there, another's anchor, another's section, the order, a number where none is
+    ruled(None, "- <a id=\"r19-15\">19.15</a> More.\n", "rule 19.15 has no row in docs/RULES.md"),
+    rowed("| [5.4](CARD.md#r5-4) a decrement", "| a decrement", "docs/RULES.md:", "a row begins with the number of its rule"),
+    rowed("| [7.1](CARD.md#r7-1) one line", "| [7.91](CARD.md#r7-91) one line", "docs/RULES.md:", "rule 7.91 does not stand in docs/CARD.md"),
+    rowed("| [8.1](CARD.md#r8-1) in this order", "| [8.1](CARD.md#r8-2) in this order", "docs/RULES.md:", "the link of rule 8.1 leads to r8-2"),
+    rowed("| [3.2](CARD.md#r3-2) fresh", "| [4.2](CARD.md#r4-2) fresh", "docs/RULES.md:", "rule 4.2 stands in '3. The pointer's state'"),
+    rowed("| [6.3](CARD.md#r6-3) its first", "| [6.1](CARD.md#r6-1) its first", "docs/RULES.md:", "rule 6.1 comes behind 6.2"),
+    rowed("the mark (2.25)", "the mark (2.52)", "docs/RULES.md:", "there is no rule 2.52"),
+    rowed(None, "| [19.1](CARD.md#r19-1) a | none | nothing | none |\n", "docs/RULES.md:", "rule 19.1 in 'Inside the card'"),
+    rowed("## [13. How a call is refused]", "## [13. How calls are refused]", "and should be 1. The card's share of the path"),
+    # a rule that no row gives a definition, and no word on it; a definition, of a promise and of demand 3, that no rule has
+    rowed("flags above 15 | `records/Record.flagsRefused` |", "flags above 15 | none |", "docs/CARD.md:", "rule 12.12 has no definition in docs/RULES.md"),
+    rowed(", `settings/Settings.any`", "", "settings/Settings.any (crates/settings/specs/Settings.antt:", "stands in the row of no rule"),
+    rowed(", `settles/Demand.logOf`", "", "settles/Demand.logOf (", "to which settles/proofs/Settled.demand-3 comes, stands in the row of no rule"),
+    # rules named elsewhere
+    named("lessons/README.md", "\nSee rule 4.99.\n", "there is no rule 4.99"),
+    named("lessons/01-one-plain-path.bench", "# rules 4.1 to 4.98\n", "there is no rule 4.98"),
+    named("docs/BENCH.md", "\n[CARD](CARD.md#r99-1)\n", "CARD.md#r99-1: no such rule"),
+    named("lessons/12-parity.bench", "# rule 8.2; rules 4.1 to 4.6, rule 4.3 and CARD 8.3, version 1.2.33, 4.99 s\n"),
+    named("docs/SPEED.md", "\n[rule 4.3](CARD.md#r4-3), [section 4](CARD.md#4-taking-one-pointer-word)\n"),
+    # names in rows: one that is not there, one in brackets, one that the index has not; one that no table has
     Trial("docs/RULES.md", None, "| a | `sink/Peek.peek` | nothing | none |\n", [RULES], ["docs/RULES.md:", "`sink/Peek.peek` is unknown"]),
     Trial("docs/RULES.md", None, "| a | none | [`sink::sink`] | none |\n", [RULES], ["docs/RULES.md:", "`sink::sink` is written in brackets"]),
     Trial("docs/RULES.md", None, "| a | none | `card::card_parity` | none |\n", [RULES], ["docs/RULES-INDEX.md:", "names are missing", "`card::card_parity`"]),
@@ -113,11 +166,12 @@ TRIALS = [
     Trial("docs/CRATES.md", None, "\n", [CRATES], ["docs/CRATES.md: not what"]),
 ]
 
-# comments in which a name could hide, or be made up; a `use` that could bring in anything
+# comments in which a name could hide, or be made up; a `use` that could bring in anything; demand 3 with no row
 UNREADABLE = [
     Trial("crates/parity/src/lib.rt", None, "/* pub fn peek() {} */\n", TESTS, ["crates/parity/src/lib.rt:", "a comment of more than a line"]),
     Trial("crates/promises/proofs/Sources.antt", None, "{- pub a : ℕ -}\n", TESTS, ["Sources.antt:", "a comment in braces"]),
     Trial("crates/parity/specs/Parity.antt", None, "use Rattle.word.specs.Word\n", [BELIEVE], ["crates/parity/specs/Parity.antt:", "a use that is not understood"]),
+    Trial("docs/RULES.md", "| [19.4](CARD.md#r19-4) ", "| [19.3](CARD.md#r19-3) ", [RULES, BELIEVE, CRATES], ["docs/RULES.md:", "no theorem in a row of rule 19.4"]),
 ]
 
 wrong = []
