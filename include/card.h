@@ -20,6 +20,30 @@
  * the library one byte and the length 0 where it is given NULL. A call from
  * another language, which sees the library's own function, has to do the same.
  */
+
+/* The refusals of the card's calls, in words. A refused call answers with the
+ * number, gives back the old state and writes no byte that was lent.
+ * docs/REFUSALS.md says what to do about each, and which call gives it.
+ *
+ *      1  the unit is not 2358 bytes long
+ *      2  the payload is not 2340 bytes long
+ *      3  a container, held or done buffer is not 2349 bytes long
+ *      4  label 00 means that nothing is carried and FF means alarm: neither
+ *         can be sent, expected or listed
+ *      5  a trace character is outside 20 to 7E, which are the blank to ~
+ *      6  more than 8 violations are to be returned
+ *      7  an adjustment is asked for with fewer than three units since the
+ *         last
+ *      8  the state has a number outside its range, or a held count that does
+ *         not fit its offset
+ *      9  the catalogue is no whole number of records of 21 bytes, or has more
+ *         than 512
+ *     10  a record does not begin with the mark 5A 4D
+ *     11  a circuit number is 0 or above 9999
+ *     12  flags are above 15
+ *     13  two records have the same trace
+ *     14  the circuit is not listed
+ */
 #ifndef CARD_H
 #define CARD_H
 
