@@ -3,7 +3,7 @@
 //! hands back, which the proved card takes through its view. After some units one more call is made with a state that no call need have left: its numbers in
 //! and out of their ranges, the total near its stop.
 //!
-//! Built and run by load/run. The seed is printed; the same seed and number give the same run. It fails where anything differs, and where a long run has not met each case of the
+//! Built and run by load/run. The seed is printed; the same seed and number give the same run; how far a long one is it says on standard error. It fails where anything differs, and where a long run has not met each case of the
 //! sink's rules that the second program names. Links libprobe_sources.a and libprobe_sink.a.
 
 #[path = "../second/bench.rs"]
@@ -24,6 +24,7 @@ use random::Random;
 use second::coverage::{Counts, NAMES};
 use second::{Asked, Ended, Pointer, Sink, AU4};
 use std::fmt::Write as _;
+use std::time::{Duration, Instant};
 
 /// How long a script is. A shorter one would not settle; a longer one starts fresh less often.
 const SCRIPT: usize = 480;
@@ -31,6 +32,8 @@ const SCRIPT: usize = 480;
 const LONG: usize = 100_000;
 /// How many disagreements are printed.
 const PRINTED: u64 = 10;
+/// How long it is silent at least between two lines that say how far it is.
+const BETWEEN: Duration = Duration::from_secs(5);
 
 // ---- the second program's state, as the proved sink has it
 
@@ -402,7 +405,7 @@ impl Load {
         let text = scripts::script(seed, units);
         let mut b = Bench::new();
         let mut card = Card::fresh();
-        let mut input = text.as_bytes();
+        let mut input = &text[..];
         let mut line = Vec::new();
         self.line = 0;
         while next_line(&mut input, &mut line).expect("it is all there") {
@@ -448,7 +451,7 @@ fn main() {
     let arguments: Vec<Option<u64>> = std::env::args().skip(1).map(|text| text.parse().ok()).collect();
     let (units, seed) = match arguments[..] {
         [Some(units)] if units > 0 => (units as usize, 1),
-        [Some(units), Some(seed)] if units > 0 => (units as usize, seed),
+        [Some(units), Some(seed)] if units > 0 && seed > 0 => (units as usize, seed),
         _ => {
             eprintln!("usage: load UNITS [SEED]  (numbers from 1 up; the seed is 1 where none is given)");
             std::process::exit(2);
@@ -459,10 +462,17 @@ fn main() {
     let mut load = Load { r: Random(seed), script: 0, line: 0, units: 0, calls: 0, containers: 0, states: 0, refused_8: 0, stopped: 0, differed: 0 };
     let mut script = seed;
     let mut scripts = 0;
+    let mut told = (0, Instant::now());
     while load.units < units {
         load.script(script, SCRIPT.min(units - load.units), &mut counts);
         script = script.wrapping_add(1);
         scripts += 1;
+        // Nine times at most, and not in a run that is soon over.
+        let tenths = (load.units as u128 * 10 / units as u128).min(10);
+        if tenths > told.0 && tenths < 10 && told.1.elapsed() >= BETWEEN {
+            eprintln!("load: {} of {units} units, {} disagreements so far", load.units, load.differed);
+            told = (tenths, Instant::now());
+        }
     }
     let unmet: Vec<&str> = counts.unmet();
     println!(

@@ -249,13 +249,11 @@ impl Bench {
     /// What a line asks for, as the bench now stands; nothing where it has no
     /// word, and none where it is not understood.
     pub fn commands(&self, line: &[u8], count: usize, note: Note) -> Option<Vec<Command>> {
-        let understood = words::words(line, count).and_then(|words| commands(&words, self.line.len()));
-        match &understood {
-            None => note("script.not-understood"),
-            Some(commands) if commands.is_empty() => {
-                note(if line.contains(&b'#') { "script.comment" } else { "script.blank" });
-            }
-            Some(_) => {}
+        let words = words::words(line, count);
+        let understood = words.as_ref().and_then(|words| commands(words, self.line.len()));
+        coverage::line(line, count, words.as_deref(), understood.is_some(), note);
+        if let Some(all @ [Command::Src(_), Command::Sink, ..]) = understood.as_deref() {
+            coverage::runs(all.len() / 2, self.sent_refused().is_some(), self.expected_refused().is_some(), note);
         }
         understood
     }
@@ -283,7 +281,9 @@ impl Bench {
             Command::Tx { label, trace, violations, remote } => {
                 self.given = Given { label, violations, remote, ..self.given };
                 self.sent_trace = trace;
-                if let Some(number) = self.sent_refused() {
+                let refused = self.sent_refused();
+                coverage::sent(refused, &trace, violations, note);
+                if let Some(number) = refused {
                     return format!("tx refused {number}\n");
                 }
             }
@@ -298,7 +298,9 @@ impl Bench {
                     ssf_reported: flags & 4 != 0,
                     ais_reported: flags & 8 != 0,
                 };
-                if let Some(number) = self.expected_refused() {
+                let refused = self.expected_refused();
+                coverage::expected(refused, &trace, note);
+                if let Some(number) = refused {
                     return format!("rx refused {number}\n");
                 }
             }
@@ -412,7 +414,7 @@ impl Bench {
             Pointer::Alarm => ("alarm", "-".to_string()),
             Pointer::Lost => ("lost", "-".to_string()),
         };
-        coverage::fed(self.sink.pointer.state, note);
+        coverage::fed(self.sink.pointer.state, &answer.defects, note);
         let ended = answer.ended.len();
         let _ = write!(text, "ok st={state} off={offset} held={} ended={ended}", self.sink.held);
         for (count, Ended { place, violations, returned }) in answer.ended.iter().enumerate() {

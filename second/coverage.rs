@@ -113,7 +113,24 @@ pub const NAMES: &[&str] = &[
     "lookup.found", "lookup.refused-14", "lookup.catalogue-refused",
     "list.listed", "list.refused",
     "parity.asked", "check.no", "check.yes", "read.asked", "read.not-two-bytes",
+    "defects.0", "defects.1", "defects.2", "defects.3", "defects.4",
+    "tx.taken", "tx.refused-4", "tx.refused-5", "tx.refused-6",
+    "tx.refused-4-before-5", "tx.refused-4-before-6", "tx.refused-5-before-6",
+    "rx.taken", "rx.refused-4", "rx.refused-5", "rx.refused-4-before-5",
+    "runs.one", "runs.more", "runs.none", "runs.too-many",
+    "runs.behind-a-refused-tx", "runs.behind-a-refused-rx",
+    // The lines of a script
     "script.not-understood", "script.comment", "script.blank",
+    "script.comment-behind-blanks", "script.comment-behind-a-command", "script.comment-with-a-quote",
+    "script.number-sign-in-a-word",
+    "script.blanks-before", "script.blanks-between", "script.blanks-behind", "script.tab",
+    "script.CR-dropped", "script.CR-alone", "script.CR-twice", "script.mark-dropped", "script.mark-later",
+    "line.longest", "line.longest-with-CR", "line.longest-with-mark",
+    "line.too-long", "line.too-long-by-CR", "line.too-long-by-mark", "line.too-long-comment",
+    "quoted.empty", "quoted.short", "quoted.fifteen", "quoted.fifteen-when-halved", "quoted.quote", "quoted.blank",
+    "quoted.number-sign", "quoted.refused-character", "quoted.sixteen", "quoted.sixteen-when-halved",
+    "quoted.open", "quoted.more-behind", "quoted.no-trace-there", "quoted.inside-a-word",
+    "hex.capitals", "hex.small", "hex.mixed",
 ];
 
 /// How often each name was met.
@@ -620,19 +637,22 @@ pub fn container_asked(refused: Option<u8>, queued: usize, note: Note) {
     }
 }
 
-/// The state in which a unit that was not refused left the sink.
-pub fn fed(state: Pointer, note: Note) {
+/// The state in which a unit that was not refused left the sink, and how many
+/// defects are named.
+pub fn fed(state: Pointer, defects: &[bool; 4], note: Note) {
     note(match state {
         Pointer::Normal(_) => "sink.normal",
         Pointer::Alarm => "sink.alarm",
         Pointer::Lost => "sink.lost",
     });
+    const NUMBERS: [&str; 5] = ["defects.0", "defects.1", "defects.2", "defects.3", "defects.4"];
+    note(NUMBERS[defects.iter().filter(|stands| **stands).count()]);
 }
 
 /// The sink's refusal, and the faults that it came before: of the settings, and
 /// of the lengths of unit, held and done buffer.
 pub fn refused(number: u8, expected: &Expected, [unit, held, done]: [usize; 3], note: Note) {
-    let trace_wrong = expected.trace.iter().any(|c| *c < 0x20 || *c > 0x7E);
+    let trace_wrong = unprintable(&expected.trace);
     let unit_wrong = unit != AU4.unit();
     let held_wrong = held != AU4.container();
     let done_wrong = done != AU4.container();
@@ -695,4 +715,167 @@ pub fn looked_up(refused: Option<u8>, note: Note) {
         Some(14) => "lookup.refused-14",
         Some(_) => "lookup.catalogue-refused",
     });
+}
+
+/// The settings of the source: what they are refused by, and the faults that
+/// it came before.
+pub fn sent(refused: Option<u8>, trace: &[u8], violations: u8, note: Note) {
+    note(match refused {
+        None => "tx.taken",
+        Some(4) => "tx.refused-4",
+        Some(5) => "tx.refused-5",
+        Some(_) => "tx.refused-6",
+    });
+    each(
+        [
+            (refused == Some(4) && unprintable(trace), "tx.refused-4-before-5"),
+            (refused == Some(4) && violations > 8, "tx.refused-4-before-6"),
+            (refused == Some(5) && violations > 8, "tx.refused-5-before-6"),
+        ],
+        note,
+    );
+}
+
+/// The settings of the sink.
+pub fn expected(refused: Option<u8>, trace: &[u8], note: Note) {
+    note(match refused {
+        None => "rx.taken",
+        Some(4) => "rx.refused-4",
+        Some(_) => "rx.refused-5",
+    });
+    if refused == Some(4) && unprintable(trace) {
+        note("rx.refused-4-before-5");
+    }
+}
+
+/// So many runs, where the settings of source and sink are refused or not.
+pub fn runs(times: usize, sent_refused: bool, expected_refused: bool, note: Note) {
+    note(if times == 1 { "runs.one" } else { "runs.more" });
+    each([(sent_refused, "runs.behind-a-refused-tx"), (expected_refused, "runs.behind-a-refused-rx")], note);
+}
+
+/// "trace character outside 20 to 7E"
+fn unprintable(trace: &[u8]) -> bool {
+    trace.iter().any(|c| *c < 0x20 || *c > 0x7E)
+}
+
+// ---------------------------------------------------------------------------
+// The lines of a script
+// ---------------------------------------------------------------------------
+
+/// The longest line, and the bytes that are dropped at a script's start, said
+/// here once more: these functions do not ask the reader.
+const LONGEST_LINE: usize = 100_000;
+const MARK: &[u8] = b"\xEF\xBB\xBF";
+
+fn number_of(byte: u8, bytes: &[u8]) -> usize {
+    bytes.iter().filter(|one| **one == byte).count()
+}
+
+/// A line with its number, the words that were read in it, none where it has
+/// none that can be read, and whether it was understood.
+pub fn line(line: &[u8], count: usize, words: Option<&[&[u8]]>, understood: bool, note: Note) {
+    let mark = line.starts_with(MARK);
+    let too_long = line.len() > LONGEST_LINE;
+    let cr = line.ends_with(b"\r");
+    if too_long {
+        each(
+            [
+                (true, "script.not-understood"),
+                (true, "line.too-long"),
+                (cr, "line.too-long-by-CR"),
+                (mark && count == 1, "line.too-long-by-mark"),
+                (line[0] == b'#', "line.too-long-comment"),
+            ],
+            note,
+        );
+        return;
+    }
+    let longest = line.len() == LONGEST_LINE && understood;
+    let text = if mark && count == 1 { &line[MARK.len()..] } else { line };
+    let text = if cr { &text[..text.len() - 1] } else { text };
+    let Some(words) = words else {
+        note("script.not-understood");
+        // Where their number is odd, one has no second.
+        note(if number_of(b'"', text) % 2 == 1 { "quoted.open" } else { "quoted.more-behind" });
+        return;
+    };
+    // What stands in the line and in no word of it stands in a comment.
+    let in_comment = |byte| number_of(byte, text) - words.iter().map(|word| number_of(byte, word)).sum::<usize>();
+    let comment = in_comment(b'#') > 0;
+    let asks = understood && !words.is_empty();
+    let bare = asks && !comment && !text.contains(&b'"');
+    each(
+        [
+            (!understood, "script.not-understood"),
+            (words.is_empty() && comment, "script.comment"),
+            (words.is_empty() && !comment, "script.blank"),
+            (words.is_empty() && comment && text[0] == b' ', "script.comment-behind-blanks"),
+            (asks && comment, "script.comment-behind-a-command"),
+            (asks && comment && in_comment(b'"') > 0, "script.comment-with-a-quote"),
+            (!understood && words.iter().any(|word| word[0] != b'"' && word.contains(&b'#')), "script.number-sign-in-a-word"),
+            (asks && text[0] == b' ', "script.blanks-before"),
+            (bare && text.trim_ascii().windows(2).any(|two| two == b"  "), "script.blanks-between"),
+            (bare && text.ends_with(b" "), "script.blanks-behind"),
+            (!understood && text.contains(&b'\t'), "script.tab"),
+            (asks && cr, "script.CR-dropped"),
+            (words.is_empty() && cr, "script.CR-alone"),
+            (!understood && cr && text.ends_with(b"\r"), "script.CR-twice"),
+            (mark && count == 1, "script.mark-dropped"),
+            (mark && count > 1, "script.mark-later"),
+            (longest, "line.longest"),
+            (longest && cr, "line.longest-with-CR"),
+            (longest && mark && count == 1, "line.longest-with-mark"),
+        ],
+        note,
+    );
+    let [name, behind @ ..] = words else {
+        return;
+    };
+    let settings = matches!(*name, b"tx" | b"rx");
+    for word in words {
+        match word {
+            [b'"', inside @ .., b'"'] => quoted(inside, settings, understood, note),
+            _ if word.contains(&b'"') => note("quoted.inside-a-word"),
+            _ => {}
+        }
+    }
+    if asks && *name != b"src" {
+        for word in behind.iter().filter(|word| word[0] != b'"') {
+            match (word.iter().any(u8::is_ascii_uppercase), word.iter().any(u8::is_ascii_lowercase)) {
+                (true, true) => note("hex.mixed"),
+                (true, false) => note("hex.capitals"),
+                (false, true) => note("hex.small"),
+                (false, false) => {}
+            }
+        }
+    }
+    match words {
+        [b"run", b"0"] => note("runs.none"),
+        [b"run", b"10000"] => note("runs.too-many"),
+        _ => {}
+    }
+}
+
+/// What stands between the quotes of a word, in the line of a `tx` or `rx` or
+/// elsewhere.
+fn quoted(inside: &[u8], settings: bool, understood: bool, note: Note) {
+    let characters = inside.len() - number_of(b'"', inside) / 2;
+    let halved = characters < inside.len();
+    each(
+        [
+            (understood && characters == 0, "quoted.empty"),
+            (understood && (1..15).contains(&characters), "quoted.short"),
+            (understood && characters == 15, "quoted.fifteen"),
+            (understood && characters == 15 && halved, "quoted.fifteen-when-halved"),
+            (understood && halved, "quoted.quote"),
+            (understood && inside.contains(&b' '), "quoted.blank"),
+            (understood && inside.contains(&b'#'), "quoted.number-sign"),
+            (understood && unprintable(inside), "quoted.refused-character"),
+            (settings && !understood && characters == 16 && !halved, "quoted.sixteen"),
+            (settings && !understood && characters == 16 && halved, "quoted.sixteen-when-halved"),
+            (!settings && !understood, "quoted.no-trace-there"),
+        ],
+        note,
+    );
 }

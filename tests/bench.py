@@ -6,27 +6,33 @@
 
 BENCH reads a script on standard input; SECOND is the second program, asked with `bench`;
 SCRIPTS makes a script from a seed and a number of units; the scripts under examples and
-lessons are played too, each on a fresh bench. The first line that differs is printed with the script
+lessons are played too, and a few that are long. The first line that differs is printed with the script
 up to the line that caused it. Every case that the second program names must be met by
-some random script.
+some random script. Of both programs each typed line must be answered before the next is
+typed, and output that cannot be written must be said on standard error.
 
 With --try there is no program yet: `rt try` compiles the bench's source in three ways
 (without optimisation, with it, and with the compiler's assumptions checked), and each
 must print what SECOND prints. Nothing is proved for that, so it is quick; many scripts
-are played as one, and one by one where they differ.
+are played as one, and one by one where they differ. Nothing is typed at it.
 """
 
 import os
+import select
 import shutil
 import subprocess
 import sys
 import tempfile
+import time
 
 LIMIT = 120  # seconds for one run of one program
+ANSWER = 30  # seconds for the answer to one typed line: none takes a second, so that only a program which waits for more comes to it
+SHOWN = 200  # bytes of a line that are shown where two differ
+MARK = b"\xef\xbb\xbf"
 MOST = 450000  # bytes of a script, or of what it prints: `rt try` stops at 1048576, and stops a run that takes long, as the checked build does on a busy machine
 ROOT = os.path.dirname(os.path.dirname(os.path.abspath(__file__)))
 # the bench as it begins, for a script that follows another
-BEGIN = b"fresh\ntx 01 202020202020202020202020202020 0 0\nrx 01 202020202020202020202020202020 0\n"
+BEGIN = b'fresh\ntx 12 "03E5" 0 0\nrx 12 "03E5" 0\n'
 
 
 def run(command, script, what, both=False):
@@ -48,6 +54,7 @@ def run(command, script, what, both=False):
 
 
 def lines_of(script):
+    """Without their LF, which alone ends a line: a CR and a mark stay where they are."""
     lines = script.split(b"\n")
     if lines and lines[-1] == b"":
         lines.pop()
@@ -55,7 +62,12 @@ def lines_of(script):
 
 
 def text(line):
-    return "(no line)" if line is None else line.decode(errors="replace")
+    """A line as it can be read: a byte that is none of 20 to 7E as \\xHH, the CR as \\r; a long one cut."""
+    if line is None:
+        return "(no line)"
+    shown = line[:SHOWN].decode("ascii", errors="backslashreplace").replace("\r", "\\r").replace("\t", "\\t")
+    shown = "".join(c if " " <= c <= "~" else f"\\x{ord(c):02x}" for c in shown)
+    return shown if len(line) <= SHOWN else f"{shown}.. ({len(line)} bytes)"
 
 
 def causing_line(second, script, place, what):
@@ -133,7 +145,8 @@ def try_all(second, played):
             groups[-1].append((name, script))
         for group in groups:
             names = f"{group[0][0]} to {group[-1][0]}"
-            script = b"".join(part for _, part in group)
+            # one that ends without an LF gets it; a mark that is not the first byte of all is not understood by either
+            script = b"".join(part if part.endswith(b"\n") else part + b"\n" for _, part in group)
             said = tried(tree, script, run([second, "bench"], script, names), names)
             if said is None:
                 continue
@@ -148,6 +161,70 @@ def try_all(second, played):
             sys.exit(f"bench.py: {names}, one after the other: the bench prints something else\n{said}")
 
 
+def typed(command):
+    """Fails unless each line is answered when it has come whole, before more is typed, and a last one without LF at the end."""
+    steps = [  # what is typed, and how many lines it prints
+        (b"parity 0f # of one byte\n", 1),
+        (b"fresh\nlen 0\n\n#\n", 0),
+        (b"show\r\n", 1),
+        (b"x\n", 1),
+        (b"tx 00 \"\" 0 0\nrx 12 \"03E5\" 15\n", 1),
+        (b"run 2\n", 4),
+        (b"rea", 0),
+        (b"d 68", 0),
+        (b"00\ncheck\n", 2),
+        (b"read 68", 0),
+    ]
+    want = [b"parity 0F", b"line ", b"? 7", b"tx refused 4", b"container refused 4", b"refused 1", b"container refused 4", b"refused 1",
+            b"read 6144", b"check 0", b"read 0"]
+    name = os.path.basename(command[0])
+    try:
+        bench = subprocess.Popen(command, stdin=subprocess.PIPE, stdout=subprocess.PIPE, stderr=subprocess.DEVNULL)
+    except OSError as error:
+        sys.exit(f"bench.py: typing: {error}")
+    said = b""
+    printed = 0
+    try:
+        for given, lines in steps:
+            bench.stdin.write(given)
+            bench.stdin.flush()
+            printed += lines
+            end = time.monotonic() + ANSWER
+            while said.count(b"\n") < printed:
+                left = end - time.monotonic()
+                if left <= 0 or not select.select([bench.stdout], [], [], left)[0]:
+                    sys.exit(f"bench.py: typing: {name} did not answer {text(given)} within {ANSWER} seconds, before more was typed")
+                more = os.read(bench.stdout.fileno(), 65536)
+                if not more:
+                    sys.exit(f"bench.py: typing: {name} ended at {text(given)}")
+                said += more
+        rest, _ = bench.communicate(timeout=LIMIT)
+    except (OSError, subprocess.TimeoutExpired) as error:
+        sys.exit(f"bench.py: typing: {name}: {error}")
+    finally:
+        bench.kill()
+        bench.wait()
+    got = lines_of(said + rest)
+    for place in range(max(len(got), len(want))):
+        a = got[place] if place < len(got) else None
+        b = want[place] if place < len(want) else None
+        if a != b:
+            sys.exit(f"bench.py: typing: line {place + 1} of {name} is {text(a)}, and should be {text(b)}")
+
+
+def unwritten(command):
+    """Fails unless a program whose output cannot be written ends, and says so."""
+    name = os.path.basename(command[0])
+    for script in (b"parity 0F\n", b"run 9999\nshow\n", b"parity 0F"):
+        try:
+            with open("/dev/full", "wb") as full:
+                done = subprocess.run(command, input=script, stdout=full, stderr=subprocess.PIPE, timeout=LIMIT, check=False)
+        except (OSError, subprocess.TimeoutExpired) as error:
+            sys.exit(f"bench.py: /dev/full: {name}: {error}")
+        if not done.stderr.strip():
+            sys.exit(f"bench.py: /dev/full: {name} says nothing of output that cannot be written")
+
+
 def examples():
     """The scripts under examples and lessons, by name."""
     found = []
@@ -156,7 +233,14 @@ def examples():
             found += [os.path.join(folder, file) for file in files if file.endswith(".bench")]
     for path in sorted(found):
         with open(path, "rb") as file:
-            yield os.path.relpath(path, ROOT), BEGIN + file.read()
+            yield os.path.relpath(path, ROOT), file.read()
+
+
+def long_scripts():
+    """Scripts that are too long for the random ones, by name: the most runs, and more lines and bytes than one may think of."""
+    yield "the most runs", b"rx 12 \"03E5\" 15\nrun 9999\nsrc i\nsink\n"
+    yield "many lines", b"# nothing\nlen 0\nshow\r\n" * 100000 + b"x"
+    yield "many long lines", (b"parity " + b"0f" * 49996 + b"\n") * 30 + b"x"
 
 
 def number(argument, what):
@@ -175,10 +259,11 @@ def main():
     met = {}
     played = []
     states = {"normal": 0, "alarm": 0, "lost": 0}
-    sinks = settled = refused = compared = 0
+    sinks = settled = refused = compared = open_ends = 0
     for seed in range(1, seeds + 1):
         what = f"seed {seed}"
         script = run([scripts, str(seed), str(units)], b"", what)
+        open_ends += not script.endswith(b"\n")
         expected, rules = run([second, "bench", "--rules"], script, what, both=True)
         if trying:
             played.append((what, script, expected))
@@ -198,20 +283,30 @@ def main():
     others = 0
     for name, script in examples():
         others += 1
+        if trying:
+            script = BEGIN + script.removeprefix(MARK)
         expected = run([second, "bench"], script, name)
         if trying:
             played.append((name, script, expected))
         else:
             compare(name, second, script, run([bench], script, name), expected)
+    if not trying:
+        for name, script in long_scripts():
+            compare(name, second, script, run([bench], script, name), run([second, "bench"], script, name))
+    for command in [[second, "bench"]] + ([] if trying else [[bench]]):
+        typed(command)
+        unwritten(command)
     if trying:
         try_all(second, played)
     never = [name for name, count in met.items() if count == 0]
     for name in never:
         print(f"bench.py: {name} was never met")
+    if not open_ends:
+        print("bench.py: no script ended without an LF")
     print(f"bench.py: {seeds} seeds and {others} examples and lessons; of the seeds {compared} lines alike, {sinks} units (normal {states['normal']}, "
           f"alarm {states['alarm']}, lost {states['lost']}, settled {settled}), {refused} refused, "
-          f"{len(met) - len(never)} of {len(met)} cases met")
-    if never or not met:
+          f"{len(met) - len(never)} of {len(met)} cases met, {open_ends} scripts without a last LF")
+    if never or not met or not open_ends:
         sys.exit(1)
 
 

@@ -15,8 +15,9 @@ script are read by this test:
     # Question: and # Answer:   one of each, and the same question stands in lessons/README.md
     # Rules in docs/CARD.md: ..   one; each number in it is a rule of that page
 
-lessons/README.md says of each lesson how many lines are to be typed; its minutes are an hour at most. Links of lessons/README.md and docs/GLOSSARY.md must lead to files that are there, and a definition that
-is named behind one must stand in its file.
+lessons/README.md says of each lesson how many lines there are to type, and its minutes are an hour at
+most. Links of lessons/README.md and docs/GLOSSARY.md must lead to files that are there, and a
+definition that is named behind one must stand in its file.
 """
 
 import os
@@ -147,14 +148,17 @@ def commands(script):
 # ---- the comments that are read
 
 def look_at_claims(lesson, fault):
-    """`# see:` is true of what was printed last: by the command before it on its line, or by any before it."""
+    """`# see:` is true of the line that the command before it printed last."""
+    command = None  # the number of its line
     for number, line in enumerate(lesson.script, 1):
         words, comment = read_line(line)
+        if words:
+            command = number
         if not comment.startswith("# see:"):
             continue
-        before = [one for one in lesson.shown if (one.number == number if words else one.number < number)]
+        before = [one for one in lesson.shown if one.number == command]
         if not before:
-            fault(f"{lesson.name}.bench:{number}", "nothing was printed that could be seen here")
+            fault(f"{lesson.name}.bench:{number}", "the command before it printed nothing")
             continue
         last = before[-1].lines[-1]
         words = iter(part for word in last.split() for part in (word.split(",") if word.startswith("c=") else [word]))

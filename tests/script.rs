@@ -1,5 +1,5 @@
-//! `script SEED UNITS`: a random script for the bench with about UNITS `sink`
-//! commands, the same for the same seed.
+//! `script SEED UNITS`: a random script for the bench with about UNITS units fed
+//! to the sink, the same for the same seed.
 
 #[path = "../second/bench.rs"]
 mod bench;
@@ -14,7 +14,7 @@ fn main() {
         [seed, units] if std::env::args().count() == 3 => {
             use std::io::Write;
             let text = scripts::script(seed, units as usize);
-            if std::io::stdout().lock().write_all(text.as_bytes()).is_err() {
+            if std::io::stdout().lock().write_all(&text).is_err() {
                 std::process::exit(1);
             }
         }

@@ -1,9 +1,11 @@
 //! Random scripts for the bench, the same for the same seed: what `script SEED UNITS` prints, and what the fault load plays.
 //!
 //! Each line goes through the second program's bench as it is written, so that
-//! the next can be chosen by where source and sink stand.
+//! the next can be chosen by where source and sink stand. Most lines say in one
+//! of many ways what they say: blanks, small digits, comments, a CR.
 
-use crate::bench::{hex, Bench};
+use crate::bench::words::{self, LONGEST_LINE, MARK};
+use crate::bench::{hex, Bench, Command};
 use crate::random::Random;
 use crate::second::{self, Asked, Pointer};
 
@@ -12,14 +14,27 @@ const ENABLED: [u16; 5] = [0b1001, 0b0001, 0b1101, 0b1011, 0b1000];
 const NEITHER: [u16; 6] = [0b0000, 0b0011, 0b0101, 0b1010, 0b1100, 0b1111];
 const I_BITS: [u16; 5] = [1 << 9, 1 << 7, 1 << 5, 1 << 3, 1 << 1];
 const D_BITS: [u16; 5] = [1 << 8, 1 << 6, 1 << 4, 1 << 2, 1];
-/// A script stays below the bench's limit.
-const LONGEST: usize = 1_000_000;
+/// A script ends after so many lines for each unit that it should have, whatever
+/// became of them.
+const LINES_A_UNIT: usize = 100;
+
+/// How the lines of a script are dressed.
+#[derive(Clone, Copy)]
+enum Dress {
+    /// Not at all.
+    Plain,
+    /// Some, in every way.
+    Some,
+    /// Each with a CR, and some in other ways.
+    Returns,
+}
 
 struct Script {
     r: Random,
     path: Bench,
-    text: String,
+    text: Vec<u8>,
     lines: usize,
+    dress: Dress,
     sinks: usize,
     /// Whether the last unit ended settled.
     settled: bool,
@@ -41,20 +56,67 @@ enum Kind {
 }
 
 impl Script {
-    /// One line, and what the bench makes of it.
-    fn say(&mut self, line: &str) {
-        self.text.push_str(line);
-        self.text.push('\n');
+    /// One line, dressed in some way, and what the bench makes of it.
+    fn say(&mut self, line: impl AsRef<[u8]>) {
+        let line = self.dressed(line.as_ref());
+        self.put(&line);
+    }
+
+    /// One line just as it is.
+    fn put(&mut self, line: &[u8]) {
+        self.text.extend_from_slice(line);
+        self.text.push(b'\n');
         self.lines += 1;
-        let mut out = Vec::new();
-        self.path.line(line.as_bytes(), self.lines, &mut out, &mut |_| {});
-        if line == "sink" {
-            let said = String::from_utf8_lossy(&out);
-            if said.starts_with("ok") {
-                self.sinks += 1;
-                self.settled = said.contains(" settled=1 ");
+        let line = if self.lines == 1 { &self.text[..self.text.len() - 1] } else { line };
+        for command in self.path.commands(line, self.lines, &mut |_| {}).unwrap_or_default() {
+            let said = self.path.play(&command, &mut |_| {});
+            match command {
+                Command::Fresh => self.settled = false,
+                Command::Sink if said.starts_with("ok") => {
+                    self.sinks += 1;
+                    self.settled = said.contains(" settled=1 ");
+                }
+                _ => {}
             }
         }
+    }
+
+    /// The same line with more blanks, other digits, a comment or a CR.
+    fn dressed(&mut self, line: &[u8]) -> Vec<u8> {
+        let mut text = Vec::new();
+        let one_in = match self.dress {
+            Dress::Plain => return line.to_vec(),
+            Dress::Some => 4,
+            Dress::Returns => 8,
+        };
+        let some = self.chance(one_in);
+        match words::words(line, 2) {
+            Some(words) if some && !words.is_empty() => {
+                text.resize(self.of(&[0, 0, 1, 3]), b' ');
+                let digits = self.r.below(3);
+                for (k, word) in words.iter().enumerate() {
+                    if k > 0 {
+                        let blanks = self.of(&[1, 1, 1, 2, 5]);
+                        text.resize(text.len() + blanks, b' ');
+                    }
+                    for byte in *word {
+                        // the digits that are letters, and none in quotes
+                        let letter = k > 0 && word[0] != b'"' && (b'A'..=b'F').contains(byte);
+                        let small = letter && (digits == 1 || digits == 2 && self.chance(2));
+                        text.push(if small { byte.to_ascii_lowercase() } else { *byte });
+                    }
+                }
+                let behind: &[u8] = self.of(&[
+                    b"", b"", b"", b"", b" ", b"    ", b" # a comment", b" #", b"   ## sink", b" #\"", b" # \"03E5\" \xE9\t\0", b" #x\r#",
+                ]);
+                text.extend_from_slice(behind);
+            }
+            _ => text.extend_from_slice(line),
+        }
+        if matches!(self.dress, Dress::Returns) || some && self.chance(4) {
+            text.push(b'\r');
+        }
+        text
     }
 
     fn chance(&mut self, one_in: usize) -> bool {
@@ -107,6 +169,10 @@ impl Script {
     }
 
     fn good(&mut self, n: usize) {
+        if n > 0 && self.chance(3) {
+            self.say(format!("run {n}"));
+            return;
+        }
         for _ in 0..n {
             self.source();
             self.say("sink");
@@ -132,13 +198,21 @@ impl Script {
 
     fn trace(&mut self) -> [u8; 15] {
         let mut t = [b' '; 15];
-        match self.r.below(3) {
-            0 => t[..4].copy_from_slice(b"03E5"),
-            1 => {
+        match self.r.below(8) {
+            0 | 1 => t[..4].copy_from_slice(b"03E5"),
+            2 | 3 => {
                 for c in &mut t {
                     *c = 0x20 + self.r.below(0x5F) as u8;
                 }
             }
+            4 => {
+                // what has a meaning outside quotes, or inside
+                let n = self.r.below(16);
+                for c in &mut t[..n] {
+                    *c = self.of(b"\"\"\" # #aF0");
+                }
+            }
+            5 => {}
             _ => {
                 let name = format!("LINE {}", self.r.below(4));
                 t[..name.len()].copy_from_slice(name.as_bytes());
@@ -154,12 +228,33 @@ impl Script {
         }
     }
 
+    /// A trace's word: its digits, or its characters in quotes.
+    fn written(&mut self, trace: &[u8; 15]) -> Vec<u8> {
+        // An LF would end the line.
+        if self.chance(2) || trace.contains(&b'\n') {
+            return hex(trace).into_bytes();
+        }
+        let needed = 15 - trace.iter().rev().take_while(|c| **c == b' ').count();
+        let length = self.of(&[needed, needed, needed, 15, (needed + 15) / 2]);
+        quoted(&trace[..length])
+    }
+
     fn tx(&mut self, label: u8, trace: [u8; 15], violations: usize, remote: bool) {
-        self.say(&format!("tx {label:02X} {} {violations} {}", hex(&trace), u8::from(remote)));
+        let word = self.written(&trace);
+        self.tx_word(label, &word, &format!("{violations} {}", u8::from(remote)));
     }
 
     fn rx(&mut self, label: u8, trace: [u8; 15], flags: usize) {
-        self.say(&format!("rx {label:02X} {} {flags}", hex(&trace)));
+        let word = self.written(&trace);
+        self.rx_word(label, &word, &flags.to_string());
+    }
+
+    fn tx_word(&mut self, label: u8, trace: &[u8], behind: &str) {
+        self.say([format!("tx {label:02X} ").as_bytes(), trace, b" ", behind.as_bytes()].concat());
+    }
+
+    fn rx_word(&mut self, label: u8, trace: &[u8], behind: &str) {
+        self.say([format!("rx {label:02X} ").as_bytes(), trace, b" ", behind.as_bytes()].concat());
     }
 
     fn flags(&mut self) -> usize {
@@ -629,9 +724,13 @@ impl Script {
                 1 => self.tx(label, wrong, 0, false),
                 2 => {
                     let violations = self.of(&[9, 15, 16, 255]);
+                    let trace = self.of(&[trace, wrong]);
                     self.tx(label, trace, violations, true);
                 }
-                _ => self.tx(0x00, wrong, 9, true),
+                _ => {
+                    let (trace, violations) = self.of(&[(wrong, 9), (trace, 9), (wrong, 0)]);
+                    self.tx(0x00, trace, violations, true);
+                }
             }
             for _ in 0..self.among(1, 3) {
                 let asked = self.of(&["src -", "src i", "src d"]);
@@ -645,7 +744,6 @@ impl Script {
         if self.chance(3) {
             // an empty queue and a wrong setting, then one after the other
             self.say("fresh");
-            self.settled = false;
             self.tx(0xFF, trace, 0, false);
             self.say("src -");
             self.tx(label, trace, 0, false);
@@ -775,16 +873,17 @@ impl Script {
         }
         let trace = self.trace;
         let flags = self.flags();
-        match self.r.below(3) {
+        match self.r.below(4) {
             0 => self.tx(label, trace, 0, false),
-            1 => self.rx(label, trace, flags),
+            1 | 2 => self.rx(label, trace, flags),
             _ => {
                 self.tx(label, trace, 0, false);
                 self.good(20);
                 self.rx(label, trace, flags);
             }
         }
-        let n = self.of(&[20, 36, 68]);
+        // The fourth message at the latest ends in the 79th.
+        let n = self.of(&[20, 36, 84, 84]);
         self.good(n);
     }
 
@@ -923,7 +1022,6 @@ impl Script {
     /// begins there at once, and two more.
     fn resumed(&mut self) {
         self.say("fresh");
-        self.settled = false;
         self.agree();
         let characters = self.path.expected.trace;
         let mut message = vec![second::start_byte(&characters)];
@@ -1012,7 +1110,6 @@ impl Script {
 
     fn fresh(&mut self) {
         self.say("fresh");
-        self.settled = false;
         if self.chance(2) {
             self.payload();
             self.say("sink");
@@ -1044,33 +1141,37 @@ impl Script {
 
     /// Lines that are not understood, or only just.
     fn odd(&mut self) {
-        const ODD: [&str; 46] = [
-            "", "", " ", "   ", "# a comment", "#", " # none", " sink", "sink ", "sink\r", "Sink", "sink  ", "sink 1", "src", "src +",
-            "src  -", "src -\r", "src I", "fill 0 00", "fill aa 00", "fill 00", "fill 00 00 00", "lens 2349", "lens 4097 0",
-            "lens 0 99999", "len", "len -1", "len 4097", "len 0000002358", "len 2358 1", "xor 0", "xor 4096 00", "xor 1 0",
-            "word 680", "word 68000", "word 6b00", "word", "payload", "payload 2", "payload x", "tx", "rx 01", "lookup",
-            "ones 1", "fresh x", "show me",
+        const ODD: [&str; 78] = [
+            "", " ", "   ", "# a comment", "#", "  # none", " #", "#\"", " sink", "sink ", "sink\r", "sink\r\r", "\rsink", "\r", "\r\r",
+            "sink\t", "\tsink", "src\t-", "\t", "Sink", "sink 1", "sink#", "sink #", "sink# 1", "# sink", "\u{FEFF}sink", "\u{FEFF}",
+            "\0", "\"sink\"", "src", "src +", "src  -", "src -\r", "src I", "src D", "src \"-\"", "src - -", "fill 0 00", "fill ag 00",
+            "fill 00", "fill 00 00 00", "lens 2349", "lens 4097 0", "lens 0 99999", "len", "len -1", "len 4097", "len 0000002358",
+            "len 2358 1", "len 235\u{660}", "xor 0", "xor 4096 00", "xor 1000000000 00", "xor 1 0", "word 680", "word 68000", "word 6g00",
+            "word 68 00", "word", "payload", "payload 2", "payload x", "tx", "rx 01", "lookup", "ones 1", "fresh x", "fresh \"", "show me",
+            "run", "run 0", "run 10000", "run 1 1", "run -1", "run 0000000001", "run 000000001", "cat \"\"", "parity \"00\"",
         ];
-        for _ in 0..self.among(1, 4) {
+        for _ in 0..self.among(2, 6) {
             match self.r.below(9) {
                 0 => {
                     let (label, trace) = (self.label, self.trace);
-                    let n = self.of(&[16, 255, 999_999_999]);
-                    self.say(&format!("rx {label:02X} {} {n}", hex(&trace)));
+                    let word = self.written(&trace);
+                    let n = self.of(&["16", "255", "999999999", "0 0", "x"]);
+                    self.rx_word(label, &word, n);
                 }
                 1 => {
                     let (label, trace) = (self.label, self.trace);
+                    let word = self.written(&trace);
                     let n = self.of(&["256 0", "8 2", "0 0 0", "0", "1234567890 0"]);
-                    self.say(&format!("tx {label:02X} {} {n}", hex(&trace)));
+                    self.tx_word(label, &word, n);
                 }
                 2 => {
                     let (label, trace) = (self.label, self.trace);
-                    let line = format!("rx {label:02X} {} 0", &hex(&trace)[2..]);
-                    self.say(&line);
+                    self.rx_word(label, &hex(&trace).as_bytes()[2..], "0");
                 }
                 3 => {
                     let (label, trace) = (self.label, self.trace);
-                    self.say(&format!("rx {label:02X} {} 000000003", hex(&trace)));
+                    let word = self.written(&trace);
+                    self.rx_word(label, &word, "000000003");
                 }
                 4 => {
                     // a line too short for these
@@ -1089,6 +1190,88 @@ impl Script {
                 }
             }
         }
+    }
+
+    /// Traces that are not understood, or only just, or that the card refuses, with units behind some; then good ones again.
+    fn odd_traces(&mut self) {
+        for _ in 0..self.among(1, 4) {
+            self.odd_trace();
+            if self.chance(3) {
+                let runs = self.of(&["run 1", "run 2", "run 3"]);
+                self.say(runs);
+            }
+        }
+        self.agree();
+    }
+
+    fn odd_trace(&mut self) {
+        let sixteen: Vec<u8> = (0..16).map(|_| self.of(b" #AaZ09~")).collect();
+        let mut quotes = sixteen.clone();
+        for _ in 0..self.among(1, 16) {
+            quotes[self.r.below(16)] = b'"';
+        }
+        let mut any = sixteen.clone();
+        // any byte, but an LF would end the line
+        any[self.r.below(15)] = self.of(&[0x00, 0x09, 0x0D, 0x1F, 0x7F, 0x80, 0xA0, 0xEF, 0xFF]);
+        let from = self.r.below(16);
+        let word = match self.r.below(14) {
+            0 => quoted(&sixteen),
+            1 => quoted(&quotes),
+            2 => quoted(&quotes[from..]),
+            11 => quoted(&quotes[1..]),
+            12 => quoted(b""),
+            3 | 4 => quoted(&any[from..15]),
+            5 => {
+                let mut open = quoted(&quotes[from..]);
+                open.pop();
+                open
+            }
+            6 => [&quoted(&sixteen[from..])[..], self.of(&[&b"#"[..], b"x", b"\t", b"0", b"\0 ", b"x\"\""])].concat(),
+            7 => [b"A", &quoted(&sixteen[from..])[..]].concat(),
+            8 => b"\"\"\"".to_vec(),
+            9 => b"03E5".to_vec(),
+            10 => [&hex(&sixteen[..15]).as_bytes()[..29], b"g"].concat(),
+            _ => hex(&sixteen).into_bytes(),
+        };
+        let label = if self.chance(4) { self.of(&[0x00, 0xFF]) } else { self.label };
+        if self.chance(8) {
+            // no blank behind the second quote
+            let word = quoted(&sixteen[1 + from.min(14)..]);
+            let (name, behind) = self.of(&[("tx", "0 0"), ("tx", "0 0 # x"), ("rx", "3"), ("rx", "#3"), ("rx", "\t3")]);
+            self.say([format!("{name} {label:02X} ").as_bytes(), &word, behind.as_bytes()].concat());
+        } else if self.chance(2) {
+            let behind = self.of(&["0 0", "8 1", "9 0", "255 1"]);
+            self.tx_word(label, &word, behind);
+        } else {
+            let flags = self.flags();
+            self.rx_word(label, &word, &flags.to_string());
+        }
+    }
+
+    /// A line of just the longest length, or of one byte more, when `besides` bytes have come to it: a CR, or a mark.
+    fn long(kind: usize, over: bool, besides: usize) -> Vec<u8> {
+        let length = LONGEST_LINE + usize::from(over) - besides;
+        let (begin, fill, end): (&str, &str, &str) = match kind {
+            0 => ("# ", "x", ""),
+            1 => ("", " ", ""),
+            2 => ("parity 5A", " ", ""),
+            3 => ("cat ", "5a", ""),
+            4 => ("", " ", "check 00"),
+            _ => ("read 6800 # ", "\"", ""),
+        };
+        let times = (length - begin.len() - end.len()) / fill.len();
+        let mut line = [begin, &fill.repeat(times), end].concat();
+        // Digits go in pairs.
+        line.push_str(&" ".repeat(length - line.len()));
+        line.into_bytes()
+    }
+
+    fn long_line(&mut self, kind: usize, over: bool, cr: bool) {
+        let mut line = Self::long(kind, over, usize::from(cr));
+        if cr {
+            line.push(b'\r');
+        }
+        self.put(&line);
     }
 
     fn host(&mut self) {
@@ -1118,7 +1301,7 @@ impl Script {
             }
         }
         if self.chance(4) {
-            let line = self.of(&["parity 0", "check 0g", "read ", "read 68 00", "parity aa"]);
+            let line = self.of(&["parity 0", "check 0g", "read ", "read 68 00", "parity aa", "parity aG"]);
             self.say(line);
         }
     }
@@ -1240,10 +1423,13 @@ const EPISODES: [fn(&mut Script); 34] = [
     Script::show,
 ];
 
-/// Those that use no units.
-const BETWEEN: [fn(&mut Script); 7] = [
+/// Those that use few units or none.
+const BETWEEN: [fn(&mut Script); 10] = [
     Script::odd,
     Script::odd,
+    Script::odd,
+    Script::odd_traces,
+    Script::odd_traces,
     Script::host,
     Script::host,
     Script::catalogue,
@@ -1270,34 +1456,70 @@ fn shuffled(r: &mut Random, list: &[fn(&mut Script)]) -> Vec<fn(&mut Script)> {
     deck
 }
 
-/// A script with about this many `sink` commands.
-pub fn script(seed: u64, units: usize) -> String {
+/// Characters in quotes, each quote among them doubled.
+fn quoted(characters: &[u8]) -> Vec<u8> {
+    let mut word = vec![b'"'];
+    for c in characters {
+        word.push(*c);
+        if *c == b'"' {
+            word.push(*c);
+        }
+    }
+    word.push(b'"');
+    word
+}
+
+/// A script with about this many units.
+pub fn script(seed: u64, units: usize) -> Vec<u8> {
     let mut r = Random(seed);
     r.next();
     let mut s = Script {
         r,
         path: Bench::new(),
-        text: String::new(),
+        text: Vec::new(),
         lines: 0,
+        dress: [Dress::Some, Dress::Plain, Dress::Some, Dress::Some, Dress::Returns][seed as usize % 5],
         sinks: 0,
         settled: false,
-        label: 0x01,
-        trace: [b' '; 15],
+        label: 0x12,
+        trace: *b"03E5           ",
     };
-    s.say(&format!("# seed {seed}, about {units} units"));
+    // A mark before every third, and behind some of these a first line of the
+    // longest length or one more.
+    if seed % 3 == 0 {
+        s.text.extend_from_slice(MARK);
+    }
+    match seed % 12 {
+        3 | 9 => s.put(&Script::long(0, seed % 12 == 9, MARK.len())),
+        _ => s.say(format!("# seed {seed}, about {units} units")),
+    }
     if s.chance(2) {
         s.payload();
+    }
+    // With the settings of the start, until they settle.
+    if seed % 4 == 2 {
+        s.say("run 66");
     }
     // The longest catalogue, whole.
     if seed % 4 == 1 {
         s.catalogue_with(512, 0);
+    }
+    // Long lines are large, so they are few. A comment that is too long is no
+    // less wrong than a command.
+    let kind = if seed % 24 == 6 { 0 } else { (seed / 12 + seed) as usize % 6 };
+    match seed % 12 {
+        2 => s.long_line(kind, false, true),
+        4 => s.long_line(kind, false, false),
+        6 => s.long_line(kind, true, false),
+        8 => s.long_line(kind, true, true),
+        _ => {}
     }
     // Scripts of following seeds begin at different long episodes. Those of odd
     // seeds have most of them; those of even seeds have most words.
     let slot = if seed % 2 == 1 { 16 } else { 8 };
     let mut long = seed as usize;
     let mut deck = Vec::new();
-    while s.sinks < units && s.text.len() < LONGEST - 100_000 {
+    while s.sinks < units && s.lines < LINES_A_UNIT * units {
         if deck.is_empty() {
             deck = shuffled(&mut s.r, &EPISODES);
         }
@@ -1317,10 +1539,15 @@ pub fn script(seed: u64, units: usize) -> String {
         if let Some(episode) = deck.pop() {
             episode(&mut s);
         }
-        s.of(&BETWEEN)(&mut s);
+        for _ in 0..2 {
+            s.of(&BETWEEN)(&mut s);
+        }
     }
-    // The last line may lack its LF.
-    if s.chance(2) {
+    // A last line needs no LF, with a CR or without.
+    if seed % 2 == 0 {
+        if seed % 4 == 0 {
+            s.say("show");
+        }
         s.text.pop();
     }
     s.text

@@ -94,6 +94,7 @@ fn a_line_is_there_when_its_lf_has_come() {
 
 #[test]
 fn the_longest_line() {
+    assert_eq!(LONGEST_LINE, 100_000);
     // A comment, a blank line and a command, each with its CR, of just the
     // longest length and of one more.
     for (with, behind) in [("#", "x"), ("", " "), ("parity 0f", " "), ("parity ", "00")] {
@@ -306,6 +307,21 @@ fn names_of_defects_and_causes() {
     assert_eq!(names(&DEFECTS, &[true; 4]), "dUNEQ,dTIM,dPLM,dRDI");
     assert_eq!(names(&CAUSES, &[true; 7]), "cAIS,cLOP,cSSF,cUNEQ,cTIM,cRDI,cPLM");
     assert_eq!(names(&DEFECTS, &[false, true, false, true]), "dTIM,dRDI");
+}
+
+#[test]
+fn settings_of_the_start() {
+    let both = "tx 12 303345352020202020202020202020 0 0\nrx 12 303345352020202020202020202020 0\n";
+    let text = ran("run 66\nones\nsink\nones\nsink\nones\nsink");
+    assert_eq!(text, ran(format!("{both}run 66\nones\nsink\nones\nsink\nones\nsink")));
+    // No flag is set: an alarm is no cause.
+    assert!(text.lines().nth(131).unwrap().contains(" d=- cause=- settled=1 "));
+    assert!(text.lines().last().unwrap().contains("ok st=alarm off=- held=0 ended=0 ssf=1 tsf=1 ais=1 rdi=1 d=- cause=- "));
+    // They stay over `fresh`, and so do others.
+    let six = "run 6\n";
+    assert!(ran(format!("{six}fresh\n{six}")).ends_with(&ran(six)));
+    let other = "tx 13 \"a\" 3 1\nrx 14 \"b\" 15\n";
+    assert!(ran(format!("{other}fresh\n{six}")) == ran(format!("{other}{six}")));
 }
 
 #[test]
