@@ -347,14 +347,14 @@ class Teller:
                 texts.append(f"settled from unit {self.since} on; {counted(unsettled, 'unit')} did not" if self.since else
                              f"{counted(self.units, 'unit')}, the last not settled")
             else:
-                text = f"{counted(self.units, 'unit')}: "
-                text += "none settled" if not self.settled else "all settled" if not unsettled else f"{self.settled} settled, {unsettled} did not"
+                text = f"{counted(self.units, 'unit')}, "
+                text += "none settled" if not self.settled else "all settled" if not unsettled else f"{self.settled} settled and {unsettled} not"
                 texts.append(text + (f"; settled from unit {self.since} on" if self.since and unsettled else "" if not self.settled or self.since else "; the last did not"))
         if self.refused:
             texts.append(f"{counted(self.refused, 'call')} refused")
         if self.strange:
             texts.append(f"{counted(self.strange, 'line')} not understood")
-        return ("" if self.brief else "In all ") + "; ".join(texts)
+        return ("" if self.brief else "In all: ") + "; ".join(texts)
 
     def comment(self, line):
         if line.comment is None:
