@@ -4,15 +4,18 @@
  *     parity HEX   ->  parity HH
  *     check HEX    ->  check 0, or check 1 for a good trace message
  *     read HEX     ->  read N
+ *     settings HEX ->  settings N: a label and a trace, and the number by which
+ *                      every call with them will be refused, 0 for none
  *
- * HEX is any number of bytes, two hex digits each, none at all included. A
+ * HEX is any number of bytes, two hex digits each, none at all included, but
+ * for `settings`, which has a label at least. A
  * line that is not understood is answered by `?` and its number, from 1. */
 #include <stdio.h>
 #include <string.h>
 
 #include "card.h"
 
-enum { LONGEST = 4096, LONGEST_LINE = 2 * LONGEST + 8 }; /* bytes that a line may stand for, and characters that it may have */
+enum { LONGEST = 4096, LONGEST_LINE = 2 * LONGEST + 10 }; /* bytes that a line may stand for, and characters that it may have */
 
 static int digit(int c)
 {
@@ -64,6 +67,8 @@ static bool answer(const char *line)
         printf("check %d\n", card_trace_check(bytes, (size_t)length) ? 1 : 0);
     else if ((hex = after(line, "read")) != NULL && (length = bytes_of(hex, bytes)) >= 0)
         printf("read %u\n", (unsigned)card_word_reading(bytes, (size_t)length));
+    else if ((hex = after(line, "settings")) != NULL && (length = bytes_of(hex, bytes)) >= 1)
+        printf("settings %u\n", (unsigned)card_settings_check(bytes[0], bytes + 1, (size_t)length - 1));
     else
         return false;
     return true;

@@ -1,21 +1,23 @@
 /* What the path card's library gives its host: parity, trace check and word
- * reading on bytes. Link with libcard.a (`rt staticlib card` writes it to
- * target/staticlib/).
+ * reading on bytes, and a check of settings before any call is made with them.
+ * Link with libcard.a (`rt staticlib card` writes it to target/staticlib/).
  *
  *     uint8_t  card_parity(const uint8_t *bytes, size_t length);
  *     bool     card_trace_check(const uint8_t *bytes, size_t length);
  *     uint16_t card_word_reading(const uint8_t *bytes, size_t length);
+ *     uint8_t  card_settings_check(uint8_t label, const uint8_t *trace,
+ *                                  size_t length);
  *
  * Each takes a pointer and a length, reads those bytes and nothing else,
- * writes nothing, keeps nothing, and always returns. None of them refuses:
- * every length has an answer, given below. The pointer must be to `length`
- * readable bytes. Where `length` is 0 it is not read through, and may be any
- * pointer, NULL too: (NULL, 0) is no bytes.
+ * writes nothing, keeps nothing, and always returns: every length has an
+ * answer, given below. The pointer must be to `length` readable bytes. Where
+ * `length` is 0 it is not read through, and may be any pointer, NULL too:
+ * (NULL, 0) is no bytes.
  *
  * NULL with another length is a fault of the host's. It is taken as no bytes,
  * so that nothing is read through it; do not count on the answer.
  *
- * The library itself takes no NULL. So each of the three names is, in a source
+ * The library itself takes no NULL. So each of the four names is, in a source
  * that includes this header, an inline function of the host's own, which lends
  * the library one byte and the length 0 where it is given NULL. A call from
  * another language, which sees the library's own function, has to do the same.
@@ -71,6 +73,14 @@ bool card_trace_check(const uint8_t *bytes, size_t length);
  * Of any length but 2: 0. (So is 00 00 with SS 00: a NDF that is neither.) */
 uint16_t card_word_reading(const uint8_t *bytes, size_t length);
 
+/* Whether a path can be set to this label and this trace, as sent or as
+ * expected: 0, or the number by which every call with them will be refused.
+ *     4  label 00 or FF
+ *     5  a trace character outside 20 to 7E, or not 15 of them: pad a short
+ *        trace with spaces, as it is compared with all of them
+ * Where both are so: 4. */
+uint8_t card_settings_check(uint8_t label, const uint8_t *trace, size_t length);
+
 /* The same for a pointer that may be NULL. */
 
 static const uint8_t card_host_none = 0; /* lent for no bytes, and never read */
@@ -90,10 +100,16 @@ static inline uint16_t card_host_word_reading(const uint8_t *bytes, size_t lengt
     return bytes != NULL ? card_word_reading(bytes, length) : card_word_reading(&card_host_none, 0);
 }
 
-/* Names, and not calls, so that a pointer to one of the three is safe too. */
+static inline uint8_t card_host_settings_check(uint8_t label, const uint8_t *trace, size_t length)
+{
+    return trace != NULL ? card_settings_check(label, trace, length) : card_settings_check(label, &card_host_none, 0);
+}
+
+/* Names, and not calls, so that a pointer to one of the four is safe too. */
 #define card_parity card_host_parity
 #define card_trace_check card_host_trace_check
 #define card_word_reading card_host_word_reading
+#define card_settings_check card_host_settings_check
 
 #ifdef __cplusplus
 }

@@ -250,6 +250,52 @@ fn catalogues(r: &mut Random, t: &mut Tally) {
     }
 }
 
+/// A label and a trace checked before any call: the number by which the second program's source and its sink refuse them,
+/// asked with nothing else wrong; 5 for any other number of characters, but behind 4.
+fn settings(r: &mut Random, t: &mut Tally) {
+    let mut met = [0usize; 6];
+    for round in 0..3000 {
+        let label = [0x00, 0x01, 0x12, 0xFE, 0xFF, r.byte()][round % 6];
+        let length = if r.below(4) == 0 { r.below(32) } else { 15 };
+        let mut characters: Vec<u8> = (0..length).map(|_| 0x20 + r.below(0x5F) as u8).collect();
+        if length > 0 && r.below(2) == 0 {
+            let at = r.below(length);
+            characters[at] = [0x00, 0x1F, 0x20, 0x7E, 0x7F, 0x80, 0xFF, r.byte()][r.below(8)];
+        }
+        let want = match <[u8; 15]>::try_from(&characters[..]) {
+            Ok(trace) => {
+                let given = second::Given { label, f2: 0, h4: 0, f3: 0, k3: 0, n1: 0, violations: 0, remote: false };
+                let sent = second::container_source(
+                    second::AU4,
+                    second::ContainerSource::fresh(),
+                    given,
+                    &trace,
+                    &[0; 2340],
+                    &mut [0; 2349],
+                );
+                let expected =
+                    second::Expected { label, trace, monitored: false, rdi_reported: false, ssf_reported: false, ais_reported: false };
+                let (unit, mut held, mut done) = ([0; 2358], [0; 2349], [0; 2349]);
+                let fed = second::sink(second::AU4, &second::Sink::fresh(), &expected, &unit, &mut held, &mut done, &mut |_| {});
+                let (source, sink) = (sent.err().unwrap_or(0), fed.err().unwrap_or(0));
+                t.same("settings, the second program's source and sink", &|| hex(&trace), source, sink);
+                sink
+            }
+            Err(_) if label == 0x00 || label == 0xFF => 4,
+            Err(_) => 5,
+        };
+        let input = || format!("{label:02X} {}", hex(&characters));
+        t.same("settings", &input, want, proved::settings_check(label, &characters));
+        met[usize::from(want)] += 1;
+    }
+    for number in [0, 4, 5] {
+        if met[number] < 100 {
+            println!("compare: answer {number} of the settings was met {} times only", met[number]);
+            t.differed += 1;
+        }
+    }
+}
+
 fn main() {
     let seed = match std::env::args().nth(1).map(|s| s.parse::<u64>()) {
         None => 20,
@@ -264,6 +310,7 @@ fn main() {
     bytes_of_every_length(&mut r, &mut t);
     words(&mut t);
     messages(&mut r, &mut t);
+    settings(&mut r, &mut t);
     catalogues(&mut r, &mut t);
     sources::compare(&mut r, &mut t);
     println!("compare: {} answers compared, {} differ (seed {seed})", t.compared, t.differed);

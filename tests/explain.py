@@ -44,7 +44,7 @@ ORDERS = {
 }
 NUMBERS = {"no": 0, "one": 1, "two": 2}
 MOST_BRIEF = 40  # lines of a lesson in its brief form, on a projector
-LONGEST_BRIEF = 180  # characters of one of them before it is wrapped
+LONGEST_BRIEF = 200  # characters of one of them before it is wrapped
 SHOWN = 8  # faults of one thing
 
 failures = {}
@@ -174,10 +174,16 @@ def sentence_faults(body, unit, before, many):
     same("causes", [name for name, _ in causes], unit.causes)
     same("testers", [tester for _, tester in causes], [TESTERS[name[1:]] for name in unit.causes])
     same("nothing reported", "nothing reported" in body, bool((unit.defects or unit.ssf) and not unit.causes))
-    same("defects set", re.findall(r" sets \((d[A-Z]+), [A-Z-]+\)", body), [name for name in unit.defects if name not in before.defects])
-    stand = re.search(r"((?:[a-z ]+\(d[A-Z]+\)(?:, | and )?)+) still stands?\b", body)
-    same("defects standing", re.findall(r"\((d[A-Z]+)\)", stand.group(1)) if stand else [], [name for name in unit.defects if name in before.defects])
-    same("defects cleared", re.findall(r" clears \((d[A-Z]+)\)", body), [name for name in before.defects if name not in unit.defects])
+    same("defects set", re.findall(r"\((d[A-Z]+), [A-Z-]+\) sets\b", body), [name for name in unit.defects if name not in before.defects])
+    stand = "".join(re.findall(r"((?:[a-z ]+\(d[A-Z]+\)(?:, | and )?)+) still stands?\b", body))
+    same("defects standing", re.findall(r"\((d[A-Z]+)\)", stand), [name for name in unit.defects if name in before.defects])
+    # what an action follows from is what the card's rules 9.2 to 9.5 have
+    for reason, action in re.findall(r"([^;]*), so ([^;]*)", body):
+        if "pointer" not in action:
+            named = set(re.findall(r"\b(d[A-Z]{3,})\b|\((SSF)\)", reason))
+            named = {name for pair in named for name in pair if name}
+            same(f"reason of `{action}`", named, {name for name in ["SSF"] * unit.ssf + unit.defects if name in ("SSF", "dUNEQ", "dTIM") or name == "dPLM" and unit.ais})
+    same("defects cleared", re.findall(r"\((d[A-Z]+)\) clears\b", body), [name for name in before.defects if name not in unit.defects])
     same("SSF", "server signal fail (SSF)" in body, unit.ssf)
     # equal units that follow each other share "is sent down" with the first of them
     same("AIS", bool(re.search(r"payload AIS is sent down|\bAIS (?:and RDI )?go(?:es)? on", body)), unit.ais)
@@ -342,8 +348,8 @@ def look_at_brief(name, printed, told, brief, fault):
     """The brief form has each defect that sets or clears at its unit, each move of the pointer, and little else."""
     if any(len(text) > LONGEST_BRIEF for text in brief[1:]):
         fault(f"{name} in brief", f"too long: {max(brief[1:], key=len)}")
-    for pattern in (r" sets \((d[A-Z]+)", r" clears \((d[A-Z]+)\)", r"(?:increment|decrement|new data,|three equal words,) (\d+ to \d+)"):
-        short = {" sets": r"(d[A-Z]+) sets", " clea": r"(d[A-Z]+) clears"}.get(pattern[:5], pattern)
+    step = r"(?:increment|decrement|new data,|three equal words,) (\d+ to \d+)"
+    for pattern, short in ((r"\((d[A-Z]+), [A-Z-]+\) sets", r"(d[A-Z]+) sets"), (r"\((d[A-Z]+)\) clears", r"(d[A-Z]+) clears"), (step, step)):
         for wanted, texts, other in ((pattern, told, short), (short, brief, pattern)):
             for text in texts:
                 head = HEAD.fullmatch(text)
@@ -435,7 +441,23 @@ ANSWERS = {
     'tx 02 "A" 8 1\n': 'tx: the source is set to label 02 (TUG structure), trace "A              ", 8 violations returned in each container (HP-REI), with remote defect (RDI)',
     "src i\nsrc -\n": "sent, and not fed to the sink: an increment, 0 to 1 (word 6AAA)",
     "sink\n": "unit 1: nothing was sent: the line is all 00; ",
-    "run 80\n": "In all 80 units: 17 settled, 63 did not; settled from unit 64 on",
+    # why the pointer is where it is
+    "run 3\n": "unit 3: three equal words, so the pointer is found at offset 0; ",
+    "run 3\nsrc -\nword 692C\nsink\nsink\nsink\n": "three equal words, 0 to 300; ",
+    "run 3\nones\nsink\n": "unit 4: an alarm word (FFFF), offset 0 stays; ",
+    "run 3\nones\nsink\nsink\nsink\n": "three alarm words in a row, so the pointer goes to alarm; ",
+    "run 3\nones\nsink\nsink\nsink\nsink\n": "still in alarm; ",
+    "run 3\nones\nsink\nsink\nsink\nsrc -\nword 9805\nsink\n": "unit 7: new data, so the pointer is found at offset 5; ",
+    "run 3\nsrc -\nword 9800\nsink\n": "unit 4: new data at the same offset, 0; ",
+    "run 3\nsrc -\nword 0800\n" + "sink\n" * 8: "unit 11, the same line again: the eighth invalid word in a row, so the pointer is lost; ",
+    "run 3\nsrc -\nword 9800\n" + "sink\n" * 8: "unit 11, the same line again: new data for the eighth time in a row, so the pointer is lost; ",
+    "run 3\nsrc -\nword 0800\n" + "sink\n" * 9: "pointer still lost; ",
+    "run 3\nsrc -\nword 6801\nsink\n": "unit 4: invalid word 6801 (value 1), offset 0 stays; ",
+    "run 3\nsrc -\nword 6C00\nsink\n": "unit 4: invalid word 6C00 (SS 11), offset 0 stays; ",
+    "run 3\nsrc -\nword 0800\nsink\n": "unit 4: invalid word 0800 (NDF 0000), offset 0 stays; ",
+    "run 3\nword 9800\nsink\nword 6AAA\nsink\n": "unit 5: invalid word 6AAA (increment too soon after the last adjustment or new data), offset 0 stays; ",
+    "src i\nlen 3\nsrc i\nword 6800\n": "the pointer word is now 6800",  # a refused unit has made the line long again
+    "run 80\n": "In all: 80 units, 17 settled and 63 not; settled from unit 64 on",
     'tx 00 "" 0 0\nrun 3\n': "units 1 to 3, one line fed 3 times: nothing new was sent (container refused 4); ",
     'tx 12 03E5 0 0\n': 'has no quotes; as a name it is written "03E5"',
     "snik\n": "snik is no command; sink is one",
@@ -630,16 +652,23 @@ def look_at_program(folder, program, lesson, data, printed, fault):
     with open(odd, "wb") as file:
         file.write(b"src -\nsink\n# mark\nsrc -\nsink\n")
     lines = lines_of(play(program, b"src -\nsink\nsrc -\nsink\n", "a slow pipe"))
-    slow = subprocess.Popen([sys.executable, EXPLAIN, "--width", "0", odd, "-"], stdin=subprocess.PIPE, stdout=subprocess.PIPE)
-    slow.stdin.write(("\n".join(lines[:2]) + "\n").encode())
-    slow.stdin.flush()
-    early, until = b"", time.monotonic() + 10
-    while b"# mark\n" not in early and time.monotonic() < until:
-        if select.select([slow.stdout], [], [], 0.5)[0]:
-            early += os.read(slow.stdout.fileno(), 4096)
-    rest, _ = slow.communicate(("\n".join(lines[2:]) + "\n").encode(), 20)
+    early, rest = early_and_late([sys.executable, EXPLAIN, "--width", "0", odd, "-"], "\n".join(lines[:2]) + "\n", b"# mark\n", "\n".join(lines[2:]) + "\n")
     if not early.startswith(b"unit 1: ") or not early.endswith(b"# mark\n") or b"unit 2: " not in rest:
         fault("a slow pipe", f"before its end it said {early!r}, and then {rest[:100]!r}")
+
+
+def early_and_late(command, first, mark, then):
+    """What a program says to the first lines, up to a mark, while it waits for more; and what it says to the rest."""
+    env = {name: value for name, value in os.environ.items() if name != "PYTHONUNBUFFERED"}
+    slow = subprocess.Popen(command, stdin=subprocess.PIPE, stdout=subprocess.PIPE, env=env)
+    slow.stdin.write(first.encode())
+    slow.stdin.flush()
+    early, until = b"", time.monotonic() + 10
+    while mark not in early and time.monotonic() < until:
+        if select.select([slow.stdout], [], [], 0.5)[0]:
+            early += os.read(slow.stdout.fileno(), 4096)
+    rest, _ = slow.communicate(then.encode(), 20)
+    return early, rest
 
 
 def look_at_desk(folder, program, everything, lesson, data, fault):
@@ -673,6 +702,10 @@ def look_at_desk(folder, program, everything, lesson, data, fault):
         commands = [" ".join(words).encode() for words, _ in map(read_line, data.decode().split("\n")) if words]
         if [b" ".join(echo.split()) for echo in echoes] != commands:
             fault("desk", f"{name}: the commands shown are {echoes[:5]}..")
+    # each line is answered at once, a comment behind it too
+    early, rest = early_and_late([sys.executable, DESK, "--bench", *program], "sink # behind\n", b"# behind\n", "sink\n")
+    if not early.startswith(b"unit 1: ") or not early.endswith(b"# behind\n") or not rest.startswith(b"unit 2"):
+        fault("desk", f"to its first line it said {early!r}, and then {rest[:100]!r}")
     # the bench's own lines, numbered as they were typed
     done = run([sys.executable, DESK, "--raw", "--bench", *program], b"parity 0102\nsnk\n\nhelp\nsnk\nquit\nparity 01\n").stdout.decode()
     if [line.strip() for line in done.split("\n") if re.match(r" {4}(parity|\?) ", line)] != ["parity 03", "? 2", "? 4"] or "parity: 01" in done:
@@ -743,8 +776,8 @@ def look_at_checks(program, pages, refusals, fault):
 
     words = {
         "another cause": change("reported: cTIM (HP-TIM)", "reported: cPLM (HP-PLM)"), "a tester's name": change("cLOP (AU-LOP)", "cLOP (AU-AIS)"),
-        "a cause left out": change("reported: cLOP (AU-LOP), cSSF (HP-SSF)", "reported: cLOP (AU-LOP)"), "a defect left out": change("trace mismatch sets (dTIM, HP-TIM), so ", ""),
-        "sets for stands": change("trace mismatch (dTIM) still stands", "trace mismatch sets (dTIM, HP-TIM)"), "another defect": change("clears (dTIM)", "clears (dPLM)"),
+        "a cause left out": change("reported: cLOP (AU-LOP), cSSF (HP-SSF)", "reported: cLOP (AU-LOP)"), "a defect left out": change("trace mismatch (dTIM, HP-TIM) sets, so ", ""),
+        "sets for stands": change("trace mismatch (dTIM) still stands", "trace mismatch (dTIM, HP-TIM) sets"), "another defect": change("(dTIM) clears", "(dPLM) clears"),
         "no AIS": change("AIS and RDI go on", "RDI goes on"), "containers": change("two containers ended", "one container ended"), "none for one": change("one container each", "no container ended"),
         "violations": change("parity violations", "no violations"), "another number returned": change("two violations returned by", "one violation returned by"),
         "an offset": change("found at offset 0", "found at offset 1"), "up for down": change("decrement 1 to 0", "increment 1 to 0"), "another step": change("increment 0 to 1", "increment 0 to 2"),
@@ -753,7 +786,7 @@ def look_at_checks(program, pages, refusals, fault):
         "a refusal's words": change("label 00 means that nothing is carried", "label 00 means alarm"), "a refusal left out": [text for text in told if not text.startswith("rx refused")],
         "how often": change(", 2 times", ", 3 times"), "the advice": change("Send the order form back", "Try again"), "another line": change("line 9 is", "line 8 is"),
         "another line's text": change("`snk`", "`snik`"), "a comment": change("# ends", "# ended"), "a trace cut": change('trace "03E6           "', 'trace "03E6"'), "alarm": change("goes to alarm", "is lost"),
-        "SSF": change("server signal fail (SSF), so ", ""), "fresh": [text for text in told if not text.startswith("fresh")],
+        "a reason": change("trace mismatch (dTIM) still stands, so", "remote defect (dRDI) still stands, so"), "SSF": change("server signal fail (SSF), so ", ""), "fresh": [text for text in told if not text.startswith("fresh")],
     }
     for name, texts in words.items():
         tried(name, lambda texts=texts: look_at_run("spoiled", base, printed, texts, refusals, note))
@@ -815,7 +848,8 @@ def main():
             everything += data + b'fresh\ntx 12 "03E5" 0 0\nrx 12 "03E5" 0\n'
             # with CR LF and a byte order mark it is the same script
             other = b"\xef\xbb\xbf" + data.replace(b"\n", b"\r\n")
-            if told_of(other, lines_of(play(program, other, name))) != told:
+            _, again, _ = look_at_script(f"{name} with CR LF", other, program, refusals, fault)
+            if again != told:
                 fault(name, "other words with CR LF and a byte order mark")
     look_at_refusals(program, refusals, fault)
     look_at_rows(program, pages[3], fault)

@@ -5,8 +5,9 @@ Usage: holes.py
 
 The repository is copied to a temporary folder and spoiled there: determinacy theorems that read nothing, too little or another function's contract,
 public functions of shapes that no page can name, rules without a number, a row or a definition, rules and names that are not there, pages and pictures
-that are no longer what they are made from, statements that come to what only proofs may need. The four tests below are run on it, and each trial must be said, in a line that has all the words that stand
-beside it. A trial that stops the reading is made alone. What went wrong is printed, then a summary; the status is 1 where anything did.
+that are no longer what they are made from, statements that come to what only proofs may need. The four tests below are run on it, and each trial must
+be said, in a line that has all the words that stand beside it. A trial that stops the reading is made alone. What went wrong is printed, then a summary;
+the status is 1 where anything did.
 """
 import collections
 import pathlib

@@ -21,7 +21,7 @@ As a module, each of these answers with a dictionary in the order of the files:
     types()              `crate::Name`            -> Type      the structs and enums of the libraries' lib.rt
     types_named()        definition               -> the structs and enums, `crate::Name`, that its own text names
     groups()             crates.txt: the headings, each with its crates, each with those that it rests on
-    strays()             faults: whatever else is public and a function in a library, as a method, where no page could name it
+    strays()             faults: whatever else is public and a function in a library, as a method, where no page could name it; a crate that rests on a program's part
 
 A Place is a file, from the repository's root, a line, and whether the name is public there. A fault of the text that stops the reading
 (a contract that does not close, a definition named twice, a comment of another kind than `//` and `--`) is raised as Unreadable; the program then exits with 2.
@@ -185,11 +185,21 @@ PUBLIC = re.compile(r"\bpub\b(?:[^;{}=:]|::)*?\bfn\b(?:\s+(?P<name>\w+))?")
 Signature = collections.namedtuple("Signature", "parameters result")
 
 
+@functools.cache
+def program_of(crate):
+    """The program that a crate is, or is a part of; nothing where it is a library of its own.
+
+    A crate with a main.rt is a program, and one with a program's name and an underscore in front is a part of it: their functions are the program's own.
+    """
+    programs = [path.parent.parent.name for path in ROOT.glob("crates/*/src/main.rt")]
+    return next((program for program in programs if crate == program or crate.startswith(program + "_")), None)
+
+
 def rt_files(files="src/*.rt"):
-    """The sources of the libraries, as (crate, path). A crate with a main.rt is a program: its functions are its own."""
+    """The sources of the libraries, as (crate, path)."""
     for path in sorted(ROOT.glob(f"crates/*/{files}")):
         crate = path.relative_to(ROOT / "crates").parts[0]
-        if not (ROOT / "crates" / crate / "src/main.rt").exists():
+        if not program_of(crate):
             yield crate, path
 
 
@@ -234,7 +244,8 @@ def public_functions():
 
 @functools.cache
 def strays():
-    faults = []
+    faults = [f"crates.txt: {crate} rests on {other}, a part of the program {program_of(other)}"
+              for _, own in groups() for crate, on in own.items() for other in on if program_of(other) and program_of(crate) != program_of(other)]
     for crate, path in rt_files("**/*.rt"):
         text = code(path)
         for found in PUBLIC.finditer(text):

@@ -1,8 +1,8 @@
-/* No bytes from a host in C: each of the card's three functions with (NULL, 0),
+/* No bytes from a host in C: each of the card's four functions with (NULL, 0),
  * with a pointer that may not be read through and the length 0, with NULL and
  * another length, and with real bytes, called by name and through a pointer.
  *
- * Linked with --wrap of the three names, so that every call of the library
+ * Linked with --wrap of the four names, so that every call of the library
  * comes by here: NULL must not reach it, and its answers must be those of
  * include/card.h. Prints what failed, and a summary; the status is 1 where
  * anything did. It is C11 and C++17. */
@@ -33,9 +33,11 @@ extern "C" {
 uint8_t __real_card_parity(const uint8_t *bytes, size_t length);
 bool __real_card_trace_check(const uint8_t *bytes, size_t length);
 uint16_t __real_card_word_reading(const uint8_t *bytes, size_t length);
+uint8_t __real_card_settings_check(uint8_t label, const uint8_t *trace, size_t length);
 uint8_t __wrap_card_parity(const uint8_t *bytes, size_t length);
 bool __wrap_card_trace_check(const uint8_t *bytes, size_t length);
 uint16_t __wrap_card_word_reading(const uint8_t *bytes, size_t length);
+uint8_t __wrap_card_settings_check(uint8_t label, const uint8_t *trace, size_t length);
 
 uint8_t __wrap_card_parity(const uint8_t *bytes, size_t length)
 {
@@ -50,6 +52,11 @@ bool __wrap_card_trace_check(const uint8_t *bytes, size_t length)
 uint16_t __wrap_card_word_reading(const uint8_t *bytes, size_t length)
 {
     return watch(bytes, length) ? __real_card_word_reading(bytes, length) : (uint16_t)0;
+}
+
+uint8_t __wrap_card_settings_check(uint8_t label, const uint8_t *trace, size_t length)
+{
+    return watch(trace, length) ? __real_card_settings_check(label, trace, length) : (uint8_t)0;
 }
 
 #ifdef __cplusplus
@@ -75,7 +82,17 @@ static void made(const char *function, const char *what, size_t answer, size_t w
     tried++;
 }
 
-/* The three on the same bytes. Both ways to call them: by name, and through a pointer. */
+/* The settings' check on a label that is refused, and on one that is not: the answer is then the trace's. */
+static void settings(const char *what, const uint8_t *bytes, size_t length, size_t there, size_t trace)
+{
+    uint8_t (*by_settings)(uint8_t, const uint8_t *, size_t) = card_settings_check;
+
+    made("card_settings_check of 00", what, card_settings_check(0x00, bytes, length), 4, there);
+    made("card_settings_check of 12", what, card_settings_check(0x12, bytes, length), trace, there);
+    made("a pointer to card_settings_check", what, by_settings(0x12, bytes, length), trace, there);
+}
+
+/* The three on the same bytes, which are no trace. Both ways to call them: by name, and through a pointer. */
 static void all(const char *what, const uint8_t *bytes, size_t length, size_t there, size_t parity, size_t check, size_t reading)
 {
     uint8_t (*by_parity)(const uint8_t *, size_t) = card_parity;
@@ -88,6 +105,20 @@ static void all(const char *what, const uint8_t *bytes, size_t length, size_t th
     made("a pointer to card_parity", what, by_parity(bytes, length), parity, there);
     made("a pointer to card_trace_check", what, by_check(bytes, length), check, there);
     made("a pointer to card_word_reading", what, by_reading(bytes, length), reading, there);
+    settings(what, bytes, length, there, 5);
+}
+
+/* A trace on a heap block of just those bytes. */
+static void trace(const char *what, const char *bytes, size_t length, size_t want)
+{
+    uint8_t *block = (uint8_t *)malloc(length);
+    if (block == NULL) {
+        puts("null: no memory");
+        exit(2);
+    }
+    memcpy(block, bytes, length);
+    settings(what, block, length, length, want);
+    free(block);
 }
 
 /* The same on a heap block of just those bytes, so that valgrind sees one read outside it. */
@@ -117,6 +148,9 @@ int main(void)
     real("a word", "\x68\x05", 2, 0x6D, 0, 4096 + 2 * 1024 + 5);
     /* the trace 03E5 and eleven spaces */
     real("a message", "\x8B" "03E5" "           ", 16, 0x8B ^ '0' ^ '3' ^ 'E' ^ '5' ^ ' ', 1, 0);
+    trace("a trace", "03E5" "           ", 15, 0);
+    trace("a trace without its last space", "03E5" "          ", 14, 5);
+    trace("a trace with 7F in it", "03E5" "          \x7F", 15, 5);
     printf("null: %u calls, %u failed\n", tried, failed);
     return failed != 0;
 }

@@ -9,6 +9,7 @@ pub mod c {
         pub fn card_parity(bytes: *const u8, length: usize) -> u8;
         pub fn card_trace_check(bytes: *const u8, length: usize) -> bool;
         pub fn card_word_reading(bytes: *const u8, length: usize) -> u16;
+        pub fn card_settings_check(label: u8, trace: *const u8, length: usize) -> u8;
         pub fn probe_copy(from: *const u8, length: usize, to: *mut u8, room: usize) -> bool;
         pub fn probe_start_byte(characters: *const u8, length: usize) -> u8;
         pub fn probe_plain_word(value: u16) -> u16;
@@ -130,6 +131,11 @@ pub fn trace_check(b: &[u8]) -> bool {
 pub fn word_reading(b: &[u8]) -> u16 {
     let b = lent(b);
     unsafe { c::card_word_reading(b.as_ptr(), b.len()) }
+}
+
+pub fn settings_check(label: u8, trace: &[u8]) -> u8 {
+    let trace = lent(trace);
+    unsafe { c::card_settings_check(label, trace.as_ptr(), trace.len()) }
 }
 
 pub fn copy(from: &[u8], to: &mut [u8]) -> bool {

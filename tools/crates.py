@@ -62,7 +62,7 @@ def kind(crate):
     """What marks a crate: one of KINDS."""
     if crate in rules.TESTS:
         return "tests"
-    if source(crate).name == "main.rt":
+    if names.program_of(crate):
         return "program"
     if crate in {theorem.split("/")[0] for theorem in rules.demand()}:
         return "demand"
@@ -76,7 +76,7 @@ KINDS = {
     "entry": "code with an entry point",
     "code": "code",
     "theorems": "theorems only",
-    "program": "a program",
+    "program": "a program, or a part of one",
     "tests": "for tests only",
 }
 

@@ -1,16 +1,11 @@
-// The bench: reads a script on standard input and plays it on a container source, a unit source, a line and a sink. docs/BENCH.md has the language.
+// The bench: reads a script on standard input and plays each line on a container source, a unit source, a line and a sink as soon as it has come. docs/BENCH.md has the language.
 // Its work is in the libraries; here a line of the script is understood and one of them called.
-mod asking;
-mod hearing;
-mod say;
-mod script;
-mod sending;
+mod input;
 
-use libc::STDERR_FILENO;
-use libc::STDIN_FILENO;
-use sending::Sent;
-use sending::Sources;
-use sending::least;
+use bench_script::least;
+use bench_sending::Sent;
+use bench_sending::Sources;
+use input::Pending;
 use settings::Settings;
 use shape::Adjustment;
 
@@ -30,85 +25,9 @@ struct Bench {
     lengths: Lengths,
 }
 
-// With another line, and the sources as they are then.
-fn with_line(b: Bench, sources: Sources, line: usize) -> Bench {
-    let sink = b.sink;
-    let sent = b.sent;
-    let settings = b.settings;
-    let old = b.lengths;
-    let lengths = Lengths {
-        line,
-        held: old.held,
-        done: old.done,
-    };
-    Bench {
-        sources,
-        sink,
-        sent,
-        settings,
-        lengths,
-    }
-}
-
-fn with_sink(b: Bench, sink: sink::State) -> Bench {
-    let sources = b.sources;
-    let sent = b.sent;
-    let settings = b.settings;
-    let lengths = b.lengths;
-    Bench {
-        sources,
-        sink,
-        sent,
-        settings,
-        lengths,
-    }
-}
-
-fn with_sent(b: Bench, sent: Sent) -> Bench {
-    let sources = b.sources;
-    let sink = b.sink;
-    let settings = b.settings;
-    let lengths = b.lengths;
-    Bench {
-        sources,
-        sink,
-        sent,
-        settings,
-        lengths,
-    }
-}
-
-fn with_settings(b: Bench, settings: Settings) -> Bench {
-    let sources = b.sources;
-    let sink = b.sink;
-    let sent = b.sent;
-    let lengths = b.lengths;
-    Bench {
-        sources,
-        sink,
-        sent,
-        settings,
-        lengths,
-    }
-}
-
-fn with_lengths(b: Bench, lengths: Lengths) -> Bench {
-    let sources = b.sources;
-    let sink = b.sink;
-    let sent = b.sent;
-    let settings = b.settings;
-    Bench {
-        sources,
-        sink,
-        sent,
-        settings,
-        lengths,
-    }
-}
-
 // Fresh machines at the lengths of the start, with these settings.
 fn started(sent: Sent, settings: Settings) -> Bench {
-    let sources = sending::fresh();
+    let sources = bench_sending::fresh();
     let sink = sink::fresh();
     let lengths = Lengths {
         line: 2358,
@@ -151,30 +70,32 @@ const SINK: u8 = 12;
 
 const PAYLOAD: u8 = 13;
 
-const CAT: u8 = 14;
+const RUN: u8 = 14;
 
-const LOOKUP: u8 = 15;
+const CAT: u8 = 15;
 
-const LIST: u8 = 16;
+const LOOKUP: u8 = 16;
 
-const PARITY: u8 = 17;
+const LIST: u8 = 17;
 
-const CHECK: u8 = 18;
+const PARITY: u8 = 18;
 
-const READ: u8 = 19;
+const CHECK: u8 = 19;
+
+const READ: u8 = 20;
 
 // The command of a line of n words that takes no more than its name.
 fn alone(s: &[u8]) -> u8 {
-    if script::is(s, 0, b"fresh") {
+    if bench_script::is(s, 0, b"fresh") {
         return FRESH;
     }
-    if script::is(s, 0, b"ones") {
+    if bench_script::is(s, 0, b"ones") {
         return ONES;
     }
-    if script::is(s, 0, b"show") {
+    if bench_script::is(s, 0, b"show") {
         return SHOW;
     }
-    if script::is(s, 0, b"sink") {
+    if bench_script::is(s, 0, b"sink") {
         return SINK;
     }
     0
@@ -182,19 +103,19 @@ fn alone(s: &[u8]) -> u8 {
 
 // One that takes bytes in hex, or none.
 fn with_bytes(s: &[u8]) -> u8 {
-    if script::is(s, 0, b"cat") {
+    if bench_script::is(s, 0, b"cat") {
         return CAT;
     }
-    if script::is(s, 0, b"list") {
+    if bench_script::is(s, 0, b"list") {
         return LIST;
     }
-    if script::is(s, 0, b"parity") {
+    if bench_script::is(s, 0, b"parity") {
         return PARITY;
     }
-    if script::is(s, 0, b"check") {
+    if bench_script::is(s, 0, b"check") {
         return CHECK;
     }
-    if script::is(s, 0, b"read") {
+    if bench_script::is(s, 0, b"read") {
         return READ;
     }
     0
@@ -202,19 +123,22 @@ fn with_bytes(s: &[u8]) -> u8 {
 
 // One of two words.
 fn of_two(s: &[u8]) -> u8 {
-    if script::is(s, 0, b"src") {
+    if bench_script::is(s, 0, b"src") {
         return SRC;
     }
-    if script::is(s, 0, b"word") {
+    if bench_script::is(s, 0, b"word") {
         return WORD;
     }
-    if script::is(s, 0, b"len") {
+    if bench_script::is(s, 0, b"len") {
         return LEN;
     }
-    if script::is(s, 0, b"payload") {
+    if bench_script::is(s, 0, b"payload") {
         return PAYLOAD;
     }
-    if script::is(s, 0, b"lookup") {
+    if bench_script::is(s, 0, b"run") {
+        return RUN;
+    }
+    if bench_script::is(s, 0, b"lookup") {
         return LOOKUP;
     }
     with_bytes(s)
@@ -222,16 +146,16 @@ fn of_two(s: &[u8]) -> u8 {
 
 // One of three.
 fn of_three(s: &[u8]) -> u8 {
-    if script::is(s, 0, b"fill") {
+    if bench_script::is(s, 0, b"fill") {
         return FILL;
     }
-    if script::is(s, 0, b"lens") {
+    if bench_script::is(s, 0, b"lens") {
         return LENS;
     }
-    if script::is(s, 0, b"xor") {
+    if bench_script::is(s, 0, b"xor") {
         return XOR;
     }
-    if script::is(s, 0, b"lookup") {
+    if bench_script::is(s, 0, b"lookup") {
         return LOOKUP;
     }
     0
@@ -243,7 +167,7 @@ fn either(a: u8, b: u8) -> u8 {
 
 // The command of a line.
 fn command(s: &[u8]) -> u8 {
-    let n = script::words(s);
+    let n = bench_script::words(s);
     if n == 1 {
         return either(alone(s), with_bytes(s));
     }
@@ -253,10 +177,10 @@ fn command(s: &[u8]) -> u8 {
     if n == 3 {
         return of_three(s);
     }
-    if (n == 4) & script::is(s, 0, b"rx") {
+    if (n == 4) & bench_script::is(s, 0, b"rx") {
         return RX;
     }
-    if (n == 5) & script::is(s, 0, b"tx") {
+    if (n == 5) & bench_script::is(s, 0, b"tx") {
         return TX;
     }
     0
@@ -266,52 +190,52 @@ fn command(s: &[u8]) -> u8 {
 
 // Those on bytes, `work` being where they go.
 fn ask(code: u8, s: &[u8], number: u64, work: &mut [u8]) {
-    let n = script::bytes(s, 1, work);
+    let n = bench_script::bytes(s, 1, work);
     let e = least(n.value as usize, work.len());
     if !n.good {
-        say::unknown(number);
+        bench_say::unknown(number);
         return;
     }
     if code == CAT {
-        asking::check(&work[..e]);
+        bench_asking::check(&work[..e]);
         return;
     }
     if code == LIST {
-        asking::list(&work[..e]);
+        bench_asking::list(&work[..e]);
         return;
     }
     if code == PARITY {
-        asking::parity(&work[..e]);
+        bench_asking::parity(&work[..e]);
         return;
     }
     if code == CHECK {
-        asking::trace_check(&work[..e]);
+        bench_asking::trace_check(&work[..e]);
         return;
     }
-    asking::read(&work[..e]);
+    bench_asking::read(&work[..e]);
 }
 
 fn lookup(s: &[u8], number: u64, work: &mut [u8]) {
-    let circuit = script::decimal(s, 1, 999999999);
-    let n = script::bytes(s, 2, work);
+    let circuit = bench_script::decimal(s, 1, 999999999);
+    let n = bench_script::bytes(s, 2, work);
     let e = least(n.value as usize, work.len());
     if !(circuit.good & n.good) {
-        say::unknown(number);
+        bench_say::unknown(number);
         return;
     }
-    asking::lookup(circuit.value, &work[..e]);
+    bench_asking::lookup(circuit.value, &work[..e]);
 }
 
 // ---- commands on the line
 
 fn overwrite(s: &[u8], number: u64, unit: &mut [u8]) {
-    let w = script::hex(s, 1, 2);
+    let w = bench_script::hex(s, 1, 2);
     if !w.good {
-        say::unknown(number);
+        bench_say::unknown(number);
         return;
     }
     if unit.len() < 4 {
-        say::unknown(number);
+        bench_say::unknown(number);
         return;
     }
     unit[0] = (w.value / 256 % 256) as u8;
@@ -319,35 +243,35 @@ fn overwrite(s: &[u8], number: u64, unit: &mut [u8]) {
 }
 
 fn damage(s: &[u8], number: u64, unit: &mut [u8]) {
-    let i = script::decimal(s, 1, 4095);
-    let b = script::hex(s, 2, 1);
+    let i = bench_script::decimal(s, 1, 4095);
+    let b = bench_script::hex(s, 2, 1);
     let k = i.value as usize;
     if !(i.good & b.good) {
-        say::unknown(number);
+        bench_say::unknown(number);
         return;
     }
     if unit.len() <= k {
-        say::unknown(number);
+        bench_say::unknown(number);
         return;
     }
     unit[k] = unit[k] ^ (b.value % 256) as u8;
 }
 
 fn show(unit: &[u8]) {
-    say::text(b"line ");
-    say::all(unit);
-    say::text(b"\n");
+    bench_say::text(b"line ");
+    bench_say::all(unit);
+    bench_say::text(b"\n");
 }
 
 // `len`: how long the line is then.
 fn measure(s: &[u8], number: u64, length: usize, line: &mut [u8]) -> usize {
-    let n = script::decimal(s, 1, 4096);
+    let n = bench_script::decimal(s, 1, 4096);
     if !n.good {
-        say::unknown(number);
+        bench_say::unknown(number);
         return length;
     }
     let k = n.value as usize;
-    sending::clear(line, length, k);
+    bench_sending::clear(line, length, k);
     k
 }
 
@@ -377,45 +301,49 @@ fn on_line(code: u8, s: &[u8], number: u64, length: usize, line: &mut [u8]) -> u
 
 fn tx(s: &[u8], number: u64, before: Sent) -> Sent {
     let mut trace = [0u8; 15];
-    let label = script::hex(s, 1, 1);
-    let n = script::bytes(s, 2, &mut trace);
-    let violations = script::decimal(s, 3, 255);
-    let remote = script::decimal(s, 4, 1);
-    if !(label.good & n.good & (n.value == 15) & violations.good & remote.good) {
-        say::unknown(number);
+    let label = bench_script::hex(s, 1, 1);
+    let is_trace = bench_script::trace(s, 2, &mut trace);
+    let violations = bench_script::decimal(s, 3, 255);
+    let remote = bench_script::decimal(s, 4, 1);
+    if !(label.good & is_trace & violations.good & remote.good) {
+        bench_say::unknown(number);
         return before;
     }
-    Sent {
+    let sent = Sent {
         label: (label.value % 256) as u8,
         trace,
         violations: (violations.value % 256) as u8,
         remote: remote.value == 1,
-    }
+    };
+    bench_sending::say_order(sent);
+    sent
 }
 
 fn rx(s: &[u8], number: u64, before: Settings) -> Settings {
     let mut trace = [0u8; 15];
-    let label = script::hex(s, 1, 1);
-    let n = script::bytes(s, 2, &mut trace);
-    let flags = script::decimal(s, 3, 15);
-    if !(label.good & n.good & (n.value == 15) & flags.good) {
-        say::unknown(number);
+    let label = bench_script::hex(s, 1, 1);
+    let is_trace = bench_script::trace(s, 2, &mut trace);
+    let flags = bench_script::decimal(s, 3, 15);
+    if !(label.good & is_trace & flags.good) {
+        bench_say::unknown(number);
         return before;
     }
-    Settings {
+    let settings = Settings {
         label: (label.value % 256) as u8,
         trace,
         flags: settings::flags_of((flags.value % 16) as u8),
-    }
+    };
+    bench_hearing::say_order(settings);
+    settings
 }
 
 // ---- held and done
 
 fn fill(s: &[u8], number: u64, held: &mut [u8], done: &mut [u8]) {
-    let h = script::hex(s, 1, 1);
-    let d = script::hex(s, 2, 1);
+    let h = bench_script::hex(s, 1, 1);
+    let d = bench_script::hex(s, 2, 1);
     if !(h.good & d.good) {
-        say::unknown(number);
+        bench_say::unknown(number);
         return;
     }
     copier::fill(held, (h.value % 256) as u8);
@@ -423,10 +351,10 @@ fn fill(s: &[u8], number: u64, held: &mut [u8], done: &mut [u8]) {
 }
 
 fn lens(s: &[u8], number: u64, before: Lengths, held: &mut [u8], done: &mut [u8]) -> Lengths {
-    let h = script::decimal(s, 1, 4096);
-    let d = script::decimal(s, 2, 4096);
+    let h = bench_script::decimal(s, 1, 4096);
+    let d = bench_script::decimal(s, 2, 4096);
     if !(h.good & d.good) {
-        say::unknown(number);
+        bench_say::unknown(number);
         return before;
     }
     copier::fill(held, 0xaa);
@@ -442,40 +370,51 @@ fn lens(s: &[u8], number: u64, before: Lengths, held: &mut [u8], done: &mut [u8]
 
 // Whether it is one of the three that `src` may be asked for.
 fn is_request(s: &[u8]) -> bool {
-    script::is(s, 1, b"-") | script::is(s, 1, b"i") | script::is(s, 1, b"d")
+    bench_script::is(s, 1, b"-") | bench_script::is(s, 1, b"i") | bench_script::is(s, 1, b"d")
 }
 
 fn request(s: &[u8]) -> Adjustment {
-    if script::is(s, 1, b"i") {
+    if bench_script::is(s, 1, b"i") {
         return Adjustment::Increment;
     }
-    if script::is(s, 1, b"d") {
+    if bench_script::is(s, 1, b"d") {
         return Adjustment::Decrement;
     }
     Adjustment::Nothing
 }
 
-fn src(b: Bench, s: &[u8], number: u64, queue: &mut [u8], line: &mut [u8]) -> Bench {
-    if !is_request(s) {
-        say::unknown(number);
-        return b;
-    }
+// `src`: the next unit, asked for so.
+fn send(b: Bench, a: Adjustment, queue: &mut [u8], line: &mut [u8]) -> Bench {
+    let mut t = b;
     let lengths = b.lengths;
     let sources = b.sources;
     let sent = b.sent;
-    let l = sending::send(sources, sent, request(s), lengths.line, queue, line);
+    let l = bench_sending::send(sources, sent, a, lengths.line, queue, line);
     let after = l.sources;
-    with_line(b, after, l.length)
+    let length = l.length;
+    t.sources = after;
+    t.lengths.line = length;
+    t
 }
 
+fn src(b: Bench, s: &[u8], number: u64, queue: &mut [u8], line: &mut [u8]) -> Bench {
+    if !is_request(s) {
+        bench_say::unknown(number);
+        return b;
+    }
+    send(b, request(s), queue, line)
+}
+
+// `sink`: the line is fed to it.
 fn feed(b: Bench, line: &[u8], held: &mut [u8], done: &mut [u8], last: &mut [u8]) -> Bench {
+    let mut t = b;
     let lengths = b.lengths;
     let before = b.sink;
     let settings = b.settings;
     let l = least(lengths.line, line.len());
     let h = least(lengths.held, held.len());
     let d = least(lengths.done, done.len());
-    let after = hearing::feed(
+    t.sink = bench_hearing::feed(
         before,
         settings,
         &line[..l],
@@ -483,23 +422,79 @@ fn feed(b: Bench, line: &[u8], held: &mut [u8], done: &mut [u8], last: &mut [u8]
         &mut done[..d],
         last,
     );
-    with_sink(b, after)
+    t
+}
+
+// `src -` and `sink`.
+fn turn(
+    b: Bench,
+    line: &mut [u8],
+    held: &mut [u8],
+    done: &mut [u8],
+    queue: &mut [u8],
+    last: &mut [u8],
+) -> Bench {
+    let sent = send(b, Adjustment::Nothing, queue, line);
+    feed(sent, line, held, done, last)
+}
+
+// These two, so many times.
+fn turns(
+    start: Bench,
+    n: u32,
+    line: &mut [u8; 4096],
+    held: &mut [u8; 4096],
+    done: &mut [u8; 4096],
+    queue: &mut [u8; 4698],
+    last: &mut [u8; 2349],
+) -> Bench {
+    let mut b = start;
+    let mut left = n;
+    while 0 < left {
+        b = turn(b, line, held, done, queue, last);
+        left -= 1;
+    }
+    b
+}
+
+// `run`
+fn run(
+    b: Bench,
+    s: &[u8],
+    number: u64,
+    line: &mut [u8; 4096],
+    held: &mut [u8; 4096],
+    done: &mut [u8; 4096],
+    queue: &mut [u8; 4698],
+    last: &mut [u8; 2349],
+) -> Bench {
+    let n = bench_script::decimal(s, 1, 9999);
+    if !n.good {
+        bench_say::unknown(number);
+        return b;
+    }
+    if n.value == 0 {
+        bench_say::unknown(number);
+        return b;
+    }
+    turns(b, n.value, line, held, done, queue, last)
 }
 
 fn payload(s: &[u8], number: u64, last: &[u8]) {
-    let ais = script::decimal(s, 1, 1);
+    let ais = bench_script::decimal(s, 1, 1);
     if !ais.good {
-        say::unknown(number);
+        bench_say::unknown(number);
         return;
     }
-    hearing::payload(ais.value == 1, last);
+    bench_hearing::payload(ais.value == 1, last);
 }
 
-fn wipe(line: &mut [u8], held: &mut [u8], done: &mut [u8], store: &mut [u8]) {
+fn wipe(line: &mut [u8], held: &mut [u8], done: &mut [u8], queue: &mut [u8], last: &mut [u8]) {
     copier::fill(line, 0);
     copier::fill(held, 0);
     copier::fill(done, 0);
-    copier::fill(store, 0);
+    copier::fill(queue, 0);
+    copier::fill(last, 0);
 }
 
 // `fresh`: the settings stay.
@@ -511,7 +506,7 @@ fn fresh(b: Bench) -> Bench {
 
 // ---- one line of the script, by groups of commands
 
-fn answer_in(code: u8, s: &[u8], number: u64, work: &mut [u8; 524288]) {
+fn answer_in(code: u8, s: &[u8], number: u64, work: &mut [u8; 50000]) {
     if code == LOOKUP {
         lookup(s, number, work);
         return;
@@ -519,8 +514,9 @@ fn answer_in(code: u8, s: &[u8], number: u64, work: &mut [u8; 524288]) {
     ask(code, s, number, work);
 }
 
+// In a buffer for all the bytes that the longest line can give.
 fn answer(code: u8, s: &[u8], number: u64) {
-    let mut work = [0u8; 524288];
+    let mut work = [0u8; 50000];
     answer_in(code, s, number, &mut work);
 }
 
@@ -542,21 +538,23 @@ fn hear(
 }
 
 fn rewrite(b: Bench, code: u8, s: &[u8], number: u64, line: &mut [u8]) -> Bench {
+    let mut t = b;
     let lengths = b.lengths;
-    let sources = b.sources;
-    let n = on_line(code, s, number, lengths.line, line);
-    with_line(b, sources, n)
+    let length = on_line(code, s, number, lengths.line, line);
+    t.lengths.line = length;
+    t
 }
 
 fn set(b: Bench, code: u8, s: &[u8], number: u64) -> Bench {
+    let mut t = b;
     if code == TX {
         let old = b.sent;
-        let sent = tx(s, number, old);
-        return with_sent(b, sent);
+        t.sent = tx(s, number, old);
+        return t;
     }
     let old = b.settings;
-    let settings = rx(s, number, old);
-    with_settings(b, settings)
+    t.settings = rx(s, number, old);
+    t
 }
 
 fn prepare(b: Bench, code: u8, s: &[u8], number: u64, held: &mut [u8], done: &mut [u8]) -> Bench {
@@ -564,31 +562,35 @@ fn prepare(b: Bench, code: u8, s: &[u8], number: u64, held: &mut [u8], done: &mu
         fill(s, number, held, done);
         return b;
     }
+    let mut t = b;
     let old = b.lengths;
-    let lengths = lens(s, number, old, held, done);
-    with_lengths(b, lengths)
+    t.lengths = lens(s, number, old, held, done);
+    t
 }
 
-// One that is understood. `store` has the two containers queued, and the one handed back last.
+// One that is understood. `queue` has the two containers queued, `last` the one handed back last.
 fn play_command(
     b: Bench,
     code: u8,
     s: &[u8],
     number: u64,
-    line: &mut [u8],
-    held: &mut [u8],
-    done: &mut [u8],
-    store: &mut [u8],
+    line: &mut [u8; 4096],
+    held: &mut [u8; 4096],
+    done: &mut [u8; 4096],
+    queue: &mut [u8; 4698],
+    last: &mut [u8; 2349],
 ) -> Bench {
-    let k = least(4698, store.len());
+    if RUN <= code {
+        return run(b, s, number, line, held, done, queue, last);
+    }
     if SINK <= code {
-        return hear(b, code, s, number, line, held, done, &mut store[k..]);
+        return hear(b, code, s, number, line, held, done, last);
     }
     if WORD <= code {
         return rewrite(b, code, s, number, line);
     }
     if SRC <= code {
-        return src(b, s, number, &mut store[..k], line);
+        return src(b, s, number, queue, line);
     }
     if TX <= code {
         return set(b, code, s, number);
@@ -596,18 +598,18 @@ fn play_command(
     if FILL <= code {
         return prepare(b, code, s, number, held, done);
     }
-    wipe(line, held, done, store);
+    wipe(line, held, done, queue, last);
     fresh(b)
 }
 
-// The command of a line that changes something; 0 where there is none, since the line is skipped, not understood, or asks and is answered here.
+// The command of a line that changes something; 0 where there is none, since the line has no word, is not understood, or asks and is answered here.
 fn changing(s: &[u8], number: u64) -> u8 {
-    if script::is_skipped(s) {
+    if bench_script::words(s) == 0 {
         return 0;
     }
     let code = command(s);
     if code == 0 {
-        say::unknown(number);
+        bench_say::unknown(number);
         return 0;
     }
     if CAT <= code {
@@ -621,96 +623,147 @@ fn play_line(
     b: Bench,
     s: &[u8],
     number: u64,
-    line: &mut [u8],
-    held: &mut [u8],
-    done: &mut [u8],
-    store: &mut [u8],
+    line: &mut [u8; 4096],
+    held: &mut [u8; 4096],
+    done: &mut [u8; 4096],
+    queue: &mut [u8; 4698],
+    last: &mut [u8; 2349],
 ) -> Bench {
     let code = changing(s, number);
     if code == 0 {
         return b;
     }
-    play_command(b, code, s, number, line, held, done, store)
+    play_command(b, code, s, number, line, held, done, queue, last)
 }
 
-// The lines of a script, each with its number.
+// The line under way, where it is not too long.
+fn play_pending(
+    b: Bench,
+    p: Pending,
+    input: &[u8],
+    number: u64,
+    line: &mut [u8; 4096],
+    held: &mut [u8; 4096],
+    done: &mut [u8; 4096],
+    queue: &mut [u8; 4698],
+    last: &mut [u8; 2349],
+) -> Bench {
+    if p.long {
+        bench_say::unknown(number);
+        return b;
+    }
+    let e = least(p.end, input.len());
+    let a = least(p.from, e);
+    let s = bench_script::commands(&input[a..e], number == 1);
+    play_line(b, s, number, line, held, done, queue, last)
+}
+
+// The bench and its input; over once there is no more to play.
+struct Desk {
+    bench: Bench,
+    pending: Pending,
+    over: bool,
+}
+
+fn is_failed() -> bool {
+    let failed = bench_say::failed();
+    if failed {
+        bench_say::complain(b"bench: standard output cannot be written\n");
+    }
+    failed
+}
+
+// The next line of standard input, with its number.
+fn play_next(
+    d: Desk,
+    number: u64,
+    input: &mut [u8; 100001],
+    line: &mut [u8; 4096],
+    held: &mut [u8; 4096],
+    done: &mut [u8; 4096],
+    queue: &mut [u8; 4698],
+    last: &mut [u8; 2349],
+) -> Desk {
+    let mut t = d;
+    let before = d.pending;
+    let b = d.bench;
+    let p = input::next_line(before, input);
+    t.pending = input::behind(p);
+    if input::is_over(p) {
+        t.over = true;
+        return t;
+    }
+    t.bench = play_pending(b, p, input, number, line, held, done, queue, last);
+    t.over = is_failed();
+    t
+}
+
+// The lines of standard input. They are counted down, from a number that no run uses up, so that the loop is seen to end.
 fn play_lines(
-    start: Bench,
-    script: &[u8],
-    line: &mut [u8],
-    held: &mut [u8],
-    done: &mut [u8],
-    store: &mut [u8],
+    start: Desk,
+    input: &mut [u8; 100001],
+    line: &mut [u8; 4096],
+    held: &mut [u8; 4096],
+    done: &mut [u8; 4096],
+    queue: &mut [u8; 4698],
+    last: &mut [u8; 2349],
 ) {
-    let mut b = start;
-    let mut at = 0;
-    let mut number = 1u64;
-    while at < script.len() {
-        let from = at;
-        let e = script::find(script, from, 0x0a);
-        let this = number;
-        at = e + 1;
-        number += 1;
-        b = play_line(b, &script[from..e], this, line, held, done, store);
+    let mut d = start;
+    let mut left = u64::MAX;
+    while 0 < left {
+        let number = u64::MAX - left + 1;
+        d = play_next(d, number, input, line, held, done, queue, last);
+        if d.over {
+            return;
+        }
+        left -= 1;
     }
 }
 
 // A script, on machines as they are at the start.
-fn play(script: &[u8]) {
+fn play(input: &mut [u8; 100001]) {
     let mut line = [0u8; 4096];
     let mut held = [0u8; 4096];
     let mut done = [0u8; 4096];
-    let mut store = [0u8; 7047];
-    let spaces = [0x20u8; 15];
+    let mut queue = [0u8; 4698];
+    let mut last = [0u8; 2349];
+    let trace = *b"03E5           ";
     let sent = Sent {
-        label: 1,
-        trace: spaces,
+        label: 0x12,
+        trace,
         violations: 0,
         remote: false,
     };
     let flags = settings::flags_of(0);
     let settings = Settings {
-        label: 1,
-        trace: spaces,
+        label: 0x12,
+        trace,
         flags,
     };
-    let b = started(sent, settings);
-    play_lines(b, script, &mut line, &mut held, &mut done, &mut store);
-}
-
-// Whether there is nothing more to read: no byte, and no failure.
-fn ended() -> bool {
-    let mut one = [0u8; 1];
-    libc::read(STDIN_FILENO, &mut one) == 0
-}
-
-// Reads a script into the buffer and plays it.
-fn run(script: &mut [u8]) {
-    let n = io::read_full(STDIN_FILENO, script);
-    if 1048576 < n {
-        say::text(b"script above 1048576 bytes\n");
-        return;
-    }
-    if !ended() {
-        io::write_all(STDERR_FILENO, b"bench: standard input cannot be read\n");
-        return;
-    }
-    play(&script[..n]);
-}
-
-// In a buffer one byte longer than the longest script, so that a longer one is seen to be longer.
-fn run_in(script: &mut [u8; 1048577]) {
-    run(script);
+    let start = Desk {
+        bench: started(sent, settings),
+        pending: input::nothing(),
+        over: false,
+    };
+    play_lines(
+        start,
+        input,
+        &mut line,
+        &mut held,
+        &mut done,
+        &mut queue,
+        &mut last,
+    );
 }
 
 fn main() {
     if 1 < os::arg_count() {
-        io::write_all(
-            STDERR_FILENO,
-            b"usage: bench < SCRIPT\nplays a script on a source, a line and a sink, and prints what they answer\n",
+        bench_say::complain(
+            b"usage: bench < SCRIPT, or bench alone, to type at it\nplays a script on a source, a line and a sink, and prints what they answer; docs/BENCH.md has its language\n",
         );
         return;
     }
-    let mut script = [0u8; 1048577];
-    run_in(&mut script);
+    // one byte more than the longest line, for its LF
+    let mut input = [0u8; 100001];
+    play(&mut input);
 }

@@ -1,9 +1,10 @@
-// What the card's host, in C, calls: parity, trace check and word reading on byte slices. include/card.h declares them.
-// These three refuse nothing: each has an answer for every length.
+// What the card's host, in C, calls: parity, trace check and word reading on byte slices, and a check of settings before they are used. include/card.h declares them.
+// The first three refuse nothing, and each of the four has an answer for every length.
 ghost use mathlib.Core.Path.{_≡_};
 ghost use Rattle.parity.specs.Parity.{parityOf};
 ghost use Rattle.trace_message.specs.Message.{traceCheck};
 ghost use Rattle.word.specs.Word.{readingOf};
+ghost use Rattle.settings.specs.Faults.{settingsCheck};
 
 // The exclusive or of all bytes; 00 of none.
 #[no_mangle]
@@ -27,4 +28,12 @@ pub extern "C" fn card_word_reading(bytes: &[u8]) -> u16
     ensures { λ r. ⌜ r ≡ readingOf (now (bytes .entry)) ⌝ }
 {
     word::reading(bytes)
+}
+
+// The number by which every call with this label and this trace will be refused, 0 where none will: 4, 5. The trace is fifteen characters; any other number of them is 5.
+#[no_mangle]
+pub extern "C" fn card_settings_check(label: u8, trace: &[u8]) -> u8
+    ensures { λ r. ⌜ r ≡ settingsCheck label (now (trace .entry)) ⌝ }
+{
+    refusals::number(settings::answer_alone(label, trace))
 }

@@ -1,17 +1,19 @@
 -- When a call of the container source or of the payload call is refused, and what it leaves: a refused call leaves everything as it was, and a call is
 -- done exactly where no row of the table applies. Assumes nothing.
 use mathlib.Core.Path.{_≡_, refl, sym, ap, _∙_}
-use mathlib.Core.Bool.{Bool}
+use mathlib.Core.Bool.{Bool, false}
 use mathlib.Core.List.{List}
 use Prim.Native.Nat.{ℕ, _<_}
 use native.Mathlib.Omega.{arith}
+use lib.Dec.{ltb}
 use lib.ListN.{length}
-use Rattle.refusals.specs.Refusals.{Fault, answerOf}
+use Rattle.refusals.specs.Refusals.{Fault, due, answerOf, answerNumber}
 use Rattle.refusals.specs.declared.Refusal.{Refusal}
 use Rattle.refusals.specs.declared.Answer.{Answer}
 use Rattle.refusals.specs.declared.Answer.the-variants.{Done, Refused}
-use Rattle.refusals.proofs.Wrong.{none-done, outcome-answer, outcome-done, outcome-refused}
-use Rattle.settings.specs.Faults.{pathFaults}
+use Rattle.refusals.proofs.Wrong.{none-done, number-first, outcome-answer, outcome-done, outcome-refused}
+use Rattle.settings.specs.Faults.{pathFaults, settingsCheck}
+use Rattle.settings.proofs.Refuses.{check-path}
 use Rattle.shape.specs.Shape.{Fit}
 use Rattle.shape.specs.declared.Shape.{Shape}
 use Rattle.container.specs.Payload.{payloadFaults, payloadHanded, Handed, payloadCall}
@@ -37,6 +39,13 @@ module _ (s : Shape) (state : State) (g : Given) (trace payload before : List �
   pub source-answer : containerSource s state g trace payload before .sent .answer ≡ answerOf faults
   unfolding containerSource
   source-answer = outcome-answer (λ (o : SentOutcome). o .sent .answer) faults _ _ refl (λ x. refl)
+
+  -- a label and a trace that a host's check refuses are refused by its number in every call; only a state out of range comes before
+  pub source-checked : length trace ≡ 15 → ltb 15 (state .place) ≡ false → 0 < settingsCheck (g .label) trace
+      → answerNumber (containerSource s state g trace payload before .sent .answer) ≡ settingsCheck (g .label) trace
+  unfolding sendFaults due
+  source-checked fifteen inside some =
+      rw (source-answer, inside, check-path (g .label) trace fifteen) (number-first (pathFaults (g .label) trace) _ (rw (check-path (g .label) trace fifteen) at some))
 
   -- "A refusal returns its number and the old state. Nothing lent is written."
   pub source-refused : (x : Refusal) → containerSource s state g trace payload before .sent .answer ≡ Refused x → containerSource s state g trace payload before ≡ record { sent = record { answer = Refused x; state = state }; container = before }

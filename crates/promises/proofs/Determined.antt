@@ -35,6 +35,8 @@ use Rattle.settings.proofs.path_answer.Kinds as settings-path-answer
 use Rattle.settings.proofs.path_answer.Reads as settings-path-answer-promise
 use Rattle.settings.proofs.answer.Kinds as settings-answer
 use Rattle.settings.proofs.answer.Reads as settings-answer-promise
+use Rattle.settings.proofs.answer_alone.Kinds as settings-answer-alone
+use Rattle.settings.proofs.answer_alone.Reads as settings-answer-alone-promise
 use Rattle.word.proofs.of.Kinds as word-of
 use Rattle.word.proofs.of.Reads as word-of-promise
 use Rattle.word.proofs.h1.Kinds as word-h1
@@ -71,6 +73,8 @@ use Rattle.card.proofs.card_trace_check.Kinds as card-trace-check
 use Rattle.card.proofs.card_trace_check.Reads as card-trace-check-promise
 use Rattle.card.proofs.card_word_reading.Kinds as card-word-reading
 use Rattle.card.proofs.card_word_reading.Reads as card-word-reading-promise
+use Rattle.card.proofs.card_settings_check.Kinds as card-settings-check
+use Rattle.card.proofs.card_settings_check.Reads as card-settings-check-promise
 use Rattle.copier.proofs.copy.Kinds as copier-copy
 use Rattle.copier.proofs.copy.Reads as copier-copy-promise
 use Rattle.copier.proofs.fill.Kinds as copier-fill
@@ -159,6 +163,9 @@ settings-path-answer-determined κs a x y s t p q = p ∙ sym q
 pub settings-answer-determined : Determines {O = Answer} 0 settings-answer.ps settings-answer.r settings-answer-promise.Post (λ κs r e. r)
 settings-answer-determined κs a x y s t p q = p ∙ sym q
 
+pub settings-answer-alone-determined : Determines {O = Answer} 1 settings-answer-alone.ps settings-answer-alone.r settings-answer-alone-promise.Post (λ κs r e. r)
+settings-answer-alone-determined κs a x y s t p q = p ∙ sym q
+
 -- ---- word
 
 pub word-of-determined : Determines {O = ℕ} 0 word-of.ps word-of.r word-of-promise.Post (λ κs r e. r)
@@ -218,6 +225,9 @@ card-trace-check-determined κs a x y s t p q = p ∙ sym q
 
 pub card-word-reading-determined : Determines {O = ℕ} 1 card-word-reading.ps card-word-reading.r card-word-reading-promise.Post (λ κs r e. r)
 card-word-reading-determined κs a x y s t p q = p ∙ sym q
+
+pub card-settings-check-determined : Determines {O = ℕ} 1 card-settings-check.ps card-settings-check.r card-settings-check-promise.Post (λ κs r e. r)
+card-settings-check-determined κs a x y s t p q = p ∙ sym q
 
 -- ---- records: what is read of one, the bytes of the part that is handed back
 

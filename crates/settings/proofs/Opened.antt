@@ -3,8 +3,8 @@ use Prim.{Unit, tt}
 use Rattle.refusals.proofs.Opened as refusals
 use Rattle.settings.specs.Settings.{labelRefused, outside, traceRefused}
 use Rattle.settings.specs.Flags.{flagsOf}
-use Rattle.settings.specs.Faults.{pathFaults, settingsFaults}
+use Rattle.settings.specs.Faults.{pathFaults, settingsFaults, aloneFaults, settingsCheck}
 
 unfoldable pub opened : Unit {0}
-unfolding refusals.opened labelRefused outside traceRefused flagsOf pathFaults settingsFaults
+unfolding refusals.opened labelRefused outside traceRefused flagsOf pathFaults settingsFaults aloneFaults settingsCheck
 opened = tt

@@ -1,17 +1,19 @@
 -- The answer to a call, as far as its label and its trace go, by the tests that led to it; and each row has its case's number. Assumes nothing.
-use mathlib.Core.Path.{_≡_, refl, ap}
-use mathlib.Core.Bool.{Bool, true, false}
+use mathlib.Core.Path.{_≡_, refl, sym, ap, _∙_}
+use mathlib.Core.Bool.{Bool, true, false, cond, not, _||_}
 use mathlib.Core.List.{List, [], _++_}
 use Prim.Native.Nat.{ℕ}
 use native.Mathlib.Omega.{arith}
+use lib.ListN.{length}
+use borrow.Author.Tests.{eq-eqb, ne-eqb}
 use Rattle.refusals.specs.Refusals.{due, given, numberOf, answerNumber, says, answerOf}
 use Rattle.refusals.specs.declared.Answer.{Answer}
 use Rattle.refusals.specs.declared.Answer.the-variants.{Done, Refused}
 use Rattle.refusals.specs.declared.Refusal.the-variants.{Label, Trace, State}
-use Rattle.refusals.proofs.Wrong.{due-none, due-false, Numbered, numbered-row, numbered-last}
+use Rattle.refusals.proofs.Wrong.{due-none, due-false, number-none, Numbered, numbered-row, numbered-last}
 use Rattle.settings.specs.declared.Settings.{Settings}
 use Rattle.settings.specs.Settings.{labelRefused, traceRefused}
-use Rattle.settings.specs.Faults.{pathFaults, settingsFaults}
+use Rattle.settings.specs.Faults.{pathFaults, settingsFaults, aloneFaults, settingsCheck}
 
 module _ (label : ℕ) (trace : List ℕ) where
   module _ (l : Bool) (is-l : l ≡ labelRefused label) where
@@ -65,3 +67,41 @@ fine-trace e h = due-false (traceRefused (e .trace)) _ (due-none (labelRefused (
 pub path-fine : (label : ℕ) (trace : List ℕ) → labelRefused label ≡ false → traceRefused trace ≡ false → pathFaults label trace ≡ []
 unfolding pathFaults due
 path-fine label trace l t = rw (l, t) refl
+
+-- ---- settings alone
+
+module _ (label : ℕ) (characters : List ℕ) where
+  -- fifteen characters are refused as in every call
+  pub alone-path : length characters ≡ 15 → aloneFaults label characters ≡ pathFaults label characters
+  unfolding aloneFaults pathFaults
+  alone-path h = rw (eq-eqb (length characters) 15 h) refl
+
+  pub check-path : length characters ≡ 15 → settingsCheck label characters ≡ answerNumber (answerOf (pathFaults label characters))
+  unfolding settingsCheck
+  check-path h = rw (alone-path h) refl
+
+  pub alone-answered : (r : Answer) → r ≡ answerOf (pathFaults label characters) → length characters ≡ 15 → r ≡ answerOf (aloneFaults label characters)
+  alone-answered r e h = rw (alone-path h) e
+
+  -- the number of what is answered is the check's
+  pub check-number : (a : Answer) (n : ℕ) → a ≡ answerOf (aloneFaults label characters) → n ≡ answerNumber a → n ≡ settingsCheck label characters
+  unfolding settingsCheck
+  check-number a n e h = h ∙ ap answerNumber e
+
+  module _ (long : length characters ≡ 15 → ⊥) (l : Bool) (is-l : l ≡ labelRefused label) where
+    pub alone-label : l ≡ true → Refused Label ≡ answerOf (aloneFaults label characters)
+    unfolding aloneFaults due answerOf
+    alone-label h = rw (← is-l, h) refl
+
+    pub alone-length : l ≡ false → Refused Trace ≡ answerOf (aloneFaults label characters)
+    unfolding aloneFaults due answerOf
+    alone-length h = rw (← is-l, h, ne-eqb (length characters) 15 long) refl
+
+-- the check gives the number by which the settings are refused in every call, and 0 exactly where no number refuses them
+module _ (e : Settings) (fifteen : length (e .trace) ≡ 15) where
+  pub check-answer : settingsCheck (e .label) (e .trace) ≡ answerNumber (answerOf (settingsFaults e))
+  unfolding settingsFaults
+  check-answer = check-path (e .label) (e .trace) fifteen
+
+  pub check-fine : settingsCheck (e .label) (e .trace) ≡ 0 → settingsFaults e ≡ []
+  check-fine h = number-none (settingsFaults e) (sym check-answer ∙ h)

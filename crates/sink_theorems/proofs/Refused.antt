@@ -2,17 +2,17 @@
 use mathlib.Core.Path.{_≡_, refl, sym, ap, _∙_}
 use mathlib.Core.Bool.{Bool, true, false, not, _||_}
 use mathlib.Core.List.{List, [], _∷_, _++_}
-use Prim.Native.Nat.{ℕ}
+use Prim.Native.Nat.{ℕ, _<_}
 use native.Mathlib.Omega.{arith}
 use lib.Dec.{eqb}
 use lib.ListN.{length}
-use Rattle.settings.specs.Faults.{settingsFaults}
-use Rattle.settings.proofs.Refuses.{settings-not-8}
+use Rattle.settings.specs.Faults.{settingsFaults, settingsCheck}
+use Rattle.settings.proofs.Refuses.{settings-not-8, check-answer}
 use Rattle.refusals.specs.Refusals.{Fault, due, given, answerOf, answerNumber, numberOf}
 use Rattle.refusals.specs.declared.Refusal.{Refusal}
 use Rattle.refusals.specs.declared.Refusal.the-variants as wrong
 use Rattle.refusals.specs.declared.Answer.the-variants.{Done, Refused}
-use Rattle.refusals.proofs.Wrong.{outcome-by, outcome-answer}
+use Rattle.refusals.proofs.Wrong.{outcome-by, outcome-answer, number-first}
 use Rattle.shape.specs.Shape.{unitLength}
 use Rattle.shape.specs.declared.Shape.{Shape}
 use Rattle.sink.specs.Sink.{ReceivedOutcome, sinkOutOfRange, sinkFaults, told, refusing, sink}
@@ -67,3 +67,14 @@ not-8 s state c h e =
     later-not-8 (settingsFaults (c .settings)) (not (eqb (length (c .unit)) (unitLength s)))
     (not (eqb (length (c .held)) (s .size)) || not (eqb (length (c .done)) (s .size)))
     (settings-not-8 (c .settings)) (rw h at (sym (answer-is s state c) ∙ e))
+
+-- ---- settings that a host has had checked before any call
+
+-- EVERY CALL WITH SETTINGS THAT THE CHECK REFUSES IS REFUSED BY ITS NUMBER, whatever the unit and the buffers; only a state out of range comes before
+pub checked-refused : (s : Shape) (state : State) (c : SinkCall) → length (c .settings .trace) ≡ 15 → sinkOutOfRange s state ≡ false
+    → 0 < settingsCheck (c .settings .label) (c .settings .trace)
+    → answerNumber (sinkCalled s state c .received .answer) ≡ settingsCheck (c .settings .label) (c .settings .trace)
+unfolding sinkFaults due
+checked-refused s state c fifteen inside some =
+    let e = c .settings in
+    rw (answer-is s state c, inside, check-answer e fifteen) (number-first (settingsFaults e) _ (rw (check-answer e fifteen) at some))

@@ -1,7 +1,7 @@
 -- `bench::feed` meets its contract: line, held and done are lent as far as they are long. Assumes what `libc` says of the C functions behind it.
-use lib.ListN.{length-take}
-use native.Mathlib.Omega.{arith}
 use borrow.Author.Needs.{needs}
+use native.Mathlib.Omega.{arith}
+use lib.ListN.{length-take}
 use Rattle.bench.proofs.feed.Statement.{statement}
 use Rattle.bench.proofs.feed.Tie as tie
 
@@ -32,9 +32,6 @@ slice-aggregate-feed-3 c = simp length-take (omega arith)
 feed-requires : tie.Need-feed-requires
 feed-requires c κs = search needs
 
-with-sink-requires : tie.Need-with-sink-requires
-with-sink-requires c κs = search needs
-
 same-length : tie.Need-same-length
 same-length c = search needs
 
@@ -60,7 +57,6 @@ feed-spec =
     slice-relend-prefix-feed-2
     slice-aggregate-feed-3
     feed-requires
-    with-sink-requires
     same-length
     same-length-2
     same-length-3

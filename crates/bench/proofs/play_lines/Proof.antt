@@ -1,91 +1,42 @@
--- `bench::play_lines` meets its contract: each line ends after it began, its number is at most its place and one, and the lengths stay. Assumes what `libc` says of the C functions behind it.
+-- `bench::play_lines` meets its contract: the lines are counted down, and each number is at most the first count. Assumes what `libc` says of the C functions behind it.
 use borrow.Author.Needs.{needs}
 use native.Mathlib.Omega.{arith}
-use Prim.Native.Nat.{ℕ, _≤_, _<_, _-_, _+_}
-use lib.ListN.{length}
-use mathlib.Core.Path.{_≡_, refl, _∙_}
+use Prim.Native.Nat.{_≤_}
 use Rattle.bench.proofs.play_lines.Statement.{statement}
 use Rattle.bench.proofs.play_lines.Tie as tie
 
 abbrev Inv-loop : tie.InvT-loop
-Inv-loop script line₀ held₀ done₀ store₀ b₀ at₀ number₀ line held done store b at number = (at ≤ length script + 1) × ((number ≤ at + 1) × ((length line ≡ length line₀) × ((length held ≡ length held₀) × ((length done ≡ length done₀) × (length store ≡ length store₀)))))
+Inv-loop input₀ line₀ held₀ done₀ queue₀ last₀ d₀ left₀ input line held done queue last d left = left ≤ 18446744073709551615
 
 abbrev μ-loop : tie.MeasureT-loop
-μ-loop script line₀ held₀ done₀ store₀ b₀ at₀ number₀ line held done store b at number = length script + 1 - at
-
-within : (e n : ℕ) → e ≤ n → e + 1 ≤ n + 1
-within e n h = omega arith
-
-counted : (at e number : ℕ) → at ≤ e → number ≤ at + 1 → number + 1 ≤ e + 1 + 1
-counted at e number h k = omega arith
-
-fewer : (at e n : ℕ) → at ≤ e → at < n → n + 1 - (e + 1) < n + 1 - at
-fewer at e n h k = omega arith
+μ-loop input₀ line₀ held₀ done₀ queue₀ last₀ d₀ left₀ input line held done queue last d left = left
 
 loop-holds : tie.Need-loop-holds Inv-loop μ-loop
-loop-holds c = (omega arith, (omega arith, (refl, (refl, (refl, refl)))))
+loop-holds c = omega arith
 
-find-requires : tie.Need-find-requires Inv-loop μ-loop
-find-requires c κs = omega arith
-
-add-at : tie.Need-add-at Inv-loop μ-loop
-add-at c = omega arith
+sub-number : tie.Need-sub-number Inv-loop μ-loop
+sub-number c = omega arith
 
 add-number : tie.Need-add-number Inv-loop μ-loop
 add-number c = omega arith
 
-sub-play-line : tie.Need-sub-play-line Inv-loop μ-loop
-sub-play-line c = omega arith
-
-part-play-line-start : tie.Need-part-play-line-start Inv-loop μ-loop
-part-play-line-start c = omega arith
-
-part-play-line-end : tie.Need-part-play-line-end Inv-loop μ-loop
-part-play-line-end c = omega arith
-
-play-line-requires : tie.Need-play-line-requires Inv-loop μ-loop
-play-line-requires c κs = search needs
-
-loop-less : tie.Need-loop-less Inv-loop μ-loop
-loop-less c =
-    let k = c .before .before .before .before .before .before .before .before .before .before .before .before .before .before in
-    fewer _ _ _ (k .find .ensures .0) (k .before .loop-test .taken)
-
-loop-again : tie.Need-loop-again Inv-loop μ-loop
-loop-again c =
-    let k = c .before .before .before .before .before .before .before .before .before .before .before .before .before .before in
-    let l = k .before .before .loop in
-    let p = c .before .before .before .before .before .before .before .before .play-line in (
-      within _ _ (k .find .ensures .1),
-      (
-        counted _ _ _ (k .find .ensures .0) (l .inv .1 .0),
-        (
-          p .kept .1 .1 .1 .0 ∙ l .inv .1 .1 .0,
-          (
-            p .kept .1 .1 .1 .1 .0 ∙ l .inv .1 .1 .1 .0,
-            (
-              p .kept .1 .1 .1 .1 .1 .0 ∙ l .inv .1 .1 .1 .1 .0,
-              p .kept .1 .1 .1 .1 .1 .1 .0 ∙ l .inv .1 .1 .1 .1 .1,
-            ),
-          ),
-        ),
-      ),
-    )
-
-same-length : tie.Need-same-length Inv-loop μ-loop
-same-length c = c .before .loop .inv .1 .1 .0
-
-same-length-2 : tie.Need-same-length-2 Inv-loop μ-loop
-same-length-2 c = c .before .loop .inv .1 .1 .1 .0
-
-same-length-3 : tie.Need-same-length-3 Inv-loop μ-loop
-same-length-3 c = c .before .loop .inv .1 .1 .1 .1 .0
-
-same-length-4 : tie.Need-same-length-4 Inv-loop μ-loop
-same-length-4 c = c .before .loop .inv .1 .1 .1 .1 .1
+play-next-requires : tie.Need-play-next-requires Inv-loop μ-loop
+play-next-requires c κs = search needs
 
 returns : tie.Need-returns Inv-loop μ-loop
 returns c = search needs
+
+sub-left : tie.Need-sub-left Inv-loop μ-loop
+sub-left c = omega arith
+
+loop-less : tie.Need-loop-less Inv-loop μ-loop
+loop-less c = omega arith
+
+loop-again : tie.Need-loop-again Inv-loop μ-loop
+loop-again c = omega arith
+
+returns-2 : tie.Need-returns-2 Inv-loop μ-loop
+returns-2 c = search needs
 
 pub play-lines-spec : {M : Type 1} → statement M
 play-lines-spec =
@@ -94,17 +45,11 @@ play-lines-spec =
     Inv-loop
     μ-loop
     loop-holds
-    find-requires
-    add-at
+    sub-number
     add-number
-    sub-play-line
-    part-play-line-start
-    part-play-line-end
-    play-line-requires
+    play-next-requires
+    returns
+    sub-left
     loop-less
     loop-again
-    same-length
-    same-length-2
-    same-length-3
-    same-length-4
-    returns)
+    returns-2)
