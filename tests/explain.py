@@ -174,10 +174,16 @@ def sentence_faults(body, unit, before, many):
     same("causes", [name for name, _ in causes], unit.causes)
     same("testers", [tester for _, tester in causes], [TESTERS[name[1:]] for name in unit.causes])
     same("nothing reported", "nothing reported" in body, bool((unit.defects or unit.ssf) and not unit.causes))
-    same("defects set", re.findall(r" sets \((d[A-Z]+), [A-Z-]+\)", body), [name for name in unit.defects if name not in before.defects])
-    stand = re.search(r"((?:[a-z ]+\(d[A-Z]+\)(?:, | and )?)+) still stands?\b", body)
-    same("defects standing", re.findall(r"\((d[A-Z]+)\)", stand.group(1)) if stand else [], [name for name in unit.defects if name in before.defects])
-    same("defects cleared", re.findall(r" clears \((d[A-Z]+)\)", body), [name for name in before.defects if name not in unit.defects])
+    same("defects set", re.findall(r"\((d[A-Z]+), [A-Z-]+\) sets\b", body), [name for name in unit.defects if name not in before.defects])
+    stand = "".join(re.findall(r"((?:[a-z ]+\(d[A-Z]+\)(?:, | and )?)+) still stands?\b", body))
+    same("defects standing", re.findall(r"\((d[A-Z]+)\)", stand), [name for name in unit.defects if name in before.defects])
+    # what an action follows from is what the card's rules 9.2 to 9.5 have
+    for reason, action in re.findall(r"([^;]*), so ([^;]*)", body):
+        if "pointer" not in action:
+            named = set(re.findall(r"\b(d[A-Z]{3,})\b|\((SSF)\)", reason))
+            named = {name for pair in named for name in pair if name}
+            same(f"reason of `{action}`", named, {name for name in ["SSF"] * unit.ssf + unit.defects if name in ("SSF", "dUNEQ", "dTIM") or name == "dPLM" and unit.ais})
+    same("defects cleared", re.findall(r"\((d[A-Z]+)\) clears\b", body), [name for name in before.defects if name not in unit.defects])
     same("SSF", "server signal fail (SSF)" in body, unit.ssf)
     # equal units that follow each other share "is sent down" with the first of them
     same("AIS", bool(re.search(r"payload AIS is sent down|\bAIS (?:and RDI )?go(?:es)? on", body)), unit.ais)
@@ -342,8 +348,8 @@ def look_at_brief(name, printed, told, brief, fault):
     """The brief form has each defect that sets or clears at its unit, each move of the pointer, and little else."""
     if any(len(text) > LONGEST_BRIEF for text in brief[1:]):
         fault(f"{name} in brief", f"too long: {max(brief[1:], key=len)}")
-    for pattern in (r" sets \((d[A-Z]+)", r" clears \((d[A-Z]+)\)", r"(?:increment|decrement|new data,|three equal words,) (\d+ to \d+)"):
-        short = {" sets": r"(d[A-Z]+) sets", " clea": r"(d[A-Z]+) clears"}.get(pattern[:5], pattern)
+    step = r"(?:increment|decrement|new data,|three equal words,) (\d+ to \d+)"
+    for pattern, short in ((r"\((d[A-Z]+), [A-Z-]+\) sets", r"(d[A-Z]+) sets"), (r"\((d[A-Z]+)\) clears", r"(d[A-Z]+) clears"), (step, step)):
         for wanted, texts, other in ((pattern, told, short), (short, brief, pattern)):
             for text in texts:
                 head = HEAD.fullmatch(text)
@@ -451,7 +457,7 @@ ANSWERS = {
     "run 3\nsrc -\nword 0800\nsink\n": "unit 4: invalid word 0800 (NDF 0000), offset 0 stays; ",
     "run 3\nword 9800\nsink\nword 6AAA\nsink\n": "unit 5: invalid word 6AAA (increment too soon after the last adjustment or new data), offset 0 stays; ",
     "src i\nlen 3\nsrc i\nword 6800\n": "the pointer word is now 6800",  # a refused unit has made the line long again
-    "run 80\n": "In all 80 units: 17 settled, 63 did not; settled from unit 64 on",
+    "run 80\n": "In all: 80 units, 17 settled and 63 not; settled from unit 64 on",
     'tx 00 "" 0 0\nrun 3\n': "units 1 to 3, one line fed 3 times: nothing new was sent (container refused 4); ",
     'tx 12 03E5 0 0\n': 'has no quotes; as a name it is written "03E5"',
     "snik\n": "snik is no command; sink is one",
@@ -770,8 +776,8 @@ def look_at_checks(program, pages, refusals, fault):
 
     words = {
         "another cause": change("reported: cTIM (HP-TIM)", "reported: cPLM (HP-PLM)"), "a tester's name": change("cLOP (AU-LOP)", "cLOP (AU-AIS)"),
-        "a cause left out": change("reported: cLOP (AU-LOP), cSSF (HP-SSF)", "reported: cLOP (AU-LOP)"), "a defect left out": change("trace mismatch sets (dTIM, HP-TIM), so ", ""),
-        "sets for stands": change("trace mismatch (dTIM) still stands", "trace mismatch sets (dTIM, HP-TIM)"), "another defect": change("clears (dTIM)", "clears (dPLM)"),
+        "a cause left out": change("reported: cLOP (AU-LOP), cSSF (HP-SSF)", "reported: cLOP (AU-LOP)"), "a defect left out": change("trace mismatch (dTIM, HP-TIM) sets, so ", ""),
+        "sets for stands": change("trace mismatch (dTIM) still stands", "trace mismatch (dTIM, HP-TIM) sets"), "another defect": change("(dTIM) clears", "(dPLM) clears"),
         "no AIS": change("AIS and RDI go on", "RDI goes on"), "containers": change("two containers ended", "one container ended"), "none for one": change("one container each", "no container ended"),
         "violations": change("parity violations", "no violations"), "another number returned": change("two violations returned by", "one violation returned by"),
         "an offset": change("found at offset 0", "found at offset 1"), "up for down": change("decrement 1 to 0", "increment 1 to 0"), "another step": change("increment 0 to 1", "increment 0 to 2"),
@@ -780,7 +786,7 @@ def look_at_checks(program, pages, refusals, fault):
         "a refusal's words": change("label 00 means that nothing is carried", "label 00 means alarm"), "a refusal left out": [text for text in told if not text.startswith("rx refused")],
         "how often": change(", 2 times", ", 3 times"), "the advice": change("Send the order form back", "Try again"), "another line": change("line 9 is", "line 8 is"),
         "another line's text": change("`snk`", "`snik`"), "a comment": change("# ends", "# ended"), "a trace cut": change('trace "03E6           "', 'trace "03E6"'), "alarm": change("goes to alarm", "is lost"),
-        "SSF": change("server signal fail (SSF), so ", ""), "fresh": [text for text in told if not text.startswith("fresh")],
+        "a reason": change("trace mismatch (dTIM) still stands, so", "remote defect (dRDI) still stands, so"), "SSF": change("server signal fail (SSF), so ", ""), "fresh": [text for text in told if not text.startswith("fresh")],
     }
     for name, texts in words.items():
         tried(name, lambda texts=texts: look_at_run("spoiled", base, printed, texts, refusals, note))

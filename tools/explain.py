@@ -37,6 +37,7 @@ COLUMN = ["J1", "B3", "C2", "G1", "F2", "H4", "F3", "K3", "N1"]  # column 1 of a
 NDF = {0b0110: "normal", 0b1110: "normal", 0b0010: "normal", 0b0100: "normal", 0b0111: "normal",
        0b1001: "enabled", 0b0001: "enabled", 0b1101: "enabled", 0b1011: "enabled", 0b1000: "enabled"}
 I_BITS, D_BITS = 0x2AA, 0x155
+NO_ACTION = ["dRDI"]  # defects from which neither AIS nor RDI follows
 LABELS = {0x00: "unequipped", 0x01: "equipped, non-specific", 0x02: "TUG structure", 0x12: "140 Mbit/s", 0x13: "ATM", 0xFE: "test signal", 0xFF: "alarm"}
 
 
@@ -78,9 +79,9 @@ class Words:
         """`cTIM (HP-TIM)`; a name that the glossary has not stands alone."""
         return f"{name} ({self.testers[name]})" if name in self.testers else name
 
-    def name(self, name):
-        """`trace mismatch` of dTIM."""
-        return self.names.get(name, name)
+    def name(self, name, *more):
+        """`trace mismatch (dTIM)`, and what else is to stand behind the name; one that the glossary has not stands alone."""
+        return f"{self.names[name]} ({', '.join([name, *more])})" if name in self.names else name
 
 
 # ---------------------------------------------------------------------------
@@ -214,8 +215,10 @@ class Told:
         self.last, self.count, self.same = unit, 1, None
 
     def joins(self, other):
-        """Takes another one in, where it is equal and fed in the same way: each a new line, or the same line again."""
-        if self.name != other.name or [key for *_, key in self.clauses] != [key for *_, key in other.clauses] or self.same not in (None, other.again):
+        """Takes another one in, where it is equal and fed in the same way: each a new line, or all of them one line."""
+        if self.name != other.name or [key for *_, key in self.clauses] != [key for *_, key in other.clauses]:
+            return False
+        if self.same not in (None, other.again) or self.again and not other.again:
             return False
         self.same, self.last, self.count = other.again, other.unit, self.count + 1
         return True
@@ -243,11 +246,6 @@ class Clauses:
     def add(self, one, many=None, key=None):
         """A clause; by its key it is equal to that of another unit."""
         self.all.append((one, one if many is None else many, key or one))
-
-    def so(self, text, key):
-        """What follows from what was said last."""
-        one, many, before = self.all[-1]
-        self.all[-1] = f"{one}, so {text}", f"{many}, so {text}", f"{before}, {key}"
 
     def event(self, text):
         self.events.append((text, text, text))
@@ -292,7 +290,7 @@ class Teller:
         self.items.append(Item(kind, text))
 
     def say(self, text, brief=None):
-        """A sentence; where it is short, what the brief form says, "" for nothing."""
+        """A sentence, and what stands for it in the brief form: "" for nothing, None for the same."""
         if not self.brief:
             self.item("said", text)
         elif brief != "":
@@ -321,7 +319,7 @@ class Teller:
             self.line = step.line
             if step.line.name == "":
                 self.comment(step.line)
-        getattr(self, {"?": "not_understood", "": "nothing"}.get(step.name, f"do_{step.name}"))(step)
+        getattr(self, {"?": "not_understood", "": "nothing"}.get(step.name, f"do_{step.name}"), self.as_printed)(step)
 
     def line_end(self):
         """Behind a line of the script: a comment that stood behind its command is told after what the command did."""
@@ -347,14 +345,14 @@ class Teller:
                 texts.append(f"settled from unit {self.since} on; {counted(unsettled, 'unit')} did not" if self.since else
                              f"{counted(self.units, 'unit')}, the last not settled")
             else:
-                text = f"{counted(self.units, 'unit')}: "
-                text += "none settled" if not self.settled else "all settled" if not unsettled else f"{self.settled} settled, {unsettled} did not"
+                text = f"{counted(self.units, 'unit')}, "
+                text += "none settled" if not self.settled else "all settled" if not unsettled else f"{self.settled} settled and {unsettled} not"
                 texts.append(text + (f"; settled from unit {self.since} on" if self.since and unsettled else "" if not self.settled or self.since else "; the last did not"))
         if self.refused:
             texts.append(f"{counted(self.refused, 'call')} refused")
         if self.strange:
             texts.append(f"{counted(self.strange, 'line')} not understood")
-        return ("" if self.brief else "In all ") + "; ".join(texts)
+        return ("" if self.brief else "In all: ") + "; ".join(texts)
 
     def comment(self, line):
         if line.comment is None:
@@ -370,6 +368,10 @@ class Teller:
 
     def nothing(self, step):
         pass
+
+    def as_printed(self, step):
+        """A command that has no words here."""
+        self.say(f"{script.shown(step.line.command)}: " + ("; ".join(said.text for said in step.said) or "done"))
 
     def not_understood(self, step):
         self.strange += 1
@@ -640,30 +642,34 @@ class Teller:
         words, had, has = self.words, (before["d"] if before else []), said["d"]
         for name in had:
             if name not in has:
-                clauses.add(f"{words.name(name)} clears ({name})")
+                clauses.add(f"{words.name(name)} clears")
                 clauses.event(f"{name} clears")
-        if said["ssf"]:
-            clauses.add("server signal fail (SSF)")
         for name in has:
             if name not in had:
-                clauses.add(f"{words.name(name)} sets ({name}, {words.testers[name]})" if name in words.testers else f"{name} sets")
-                clauses.event(f"{name} sets ({words.name(name)})" if name in words.names else f"{name} sets")
-        stand = [f"{words.name(name)} ({name})" for name in has if name in had]
-        if stand:
-            clauses.add(f"{listed(stand)} still stand{'s' if len(stand) == 1 else ''}")
+                clauses.event(f"{name} sets" + (f" ({words.names[name]})" if name in words.names else ""))
+        # what the actions follow from is said with them, and the other defects behind
+        causing = ["server signal fail (SSF)"] if said["ssf"] else []
+        causing += self.standing([name for name in has if name not in NO_ACTION], had)
         actions = [name for bit, name in ((said["ais"], "AIS"), (said["rdi"], "RDI")) if bit]
-        if actions:
-            if before and (before["ais"], before["rdi"]) == (said["ais"], said["rdi"]):
-                text = f"{listed(actions)} go{'es' if len(actions) == 1 else ''} on"
-            else:
-                text = listed({"AIS": "payload AIS is sent down", "RDI": "RDI goes to the far end"}[name] for name in actions)
-            if said["ssf"] or any(name != "dRDI" for name in has):  # what they follow from was named right before
-                clauses.so(text, listed(actions))
-            else:
-                clauses.add(text, key=listed(actions))
+        if before and (before["ais"], before["rdi"]) == (said["ais"], said["rdi"]):
+            text = f"{listed(actions)} go{'es' if len(actions) == 1 else ''} on" if actions else ""
+        else:
+            text = listed({"AIS": "payload AIS is sent down", "RDI": "RDI goes to the far end"}[name] for name in actions) if actions else ""
+        if causing:
+            clauses.add(listed(causing) + (f", so {text}" if text else ""), key=listed(causing) + str(actions))
+        elif text:
+            clauses.add(text, key=str(actions))
+        for each in self.standing([name for name in has if name in NO_ACTION], had):
+            clauses.add(each)
         ended = [name for key, name in (("ais", "AIS"), ("rdi", "RDI")) if before and before[key] and not said[key]]
         if ended:
             clauses.add(f"{listed(ended)} end{'s' if len(ended) == 1 else ''}")
+
+    def standing(self, names, had):
+        """Defects that stand, as texts: those that stood before, then each that is new."""
+        stood = [self.words.name(name) for name in names if name in had]
+        return ([f"{listed(stood)} still stand{'s' if len(stood) == 1 else ''}"] if stood else []) + [
+            f"{self.words.name(name, self.words.testers.get(name, ''))} sets" for name in names if name not in had]
 
     def causes(self, said, before, clauses):
         had, has = (before["cause"] if before else []), said["cause"]
