@@ -3,16 +3,20 @@
 
     tests/pictures.py PROGRAM [ARGS..]     PROGRAM plays a bench script from its standard input; tshark must be there.
 
-Every script under examples and lessons is played, and what was printed is read here once more. Its picture is taken
-from the drawn shapes, not from how they came about: the units' cells by their places, then which cells each bar, band
-and box covers, which row name stands beside it and which text in it. Texts may not lie upon one another or outside the
-picture. Damaged pictures must be found out, and bad input must give a message, a status and no picture. The pictures
-of runs in docs/pictures must be what the tool makes of their scripts, byte for byte, and docs/PICTURES.md must have what tshark prints.
+Every script under examples and lessons is played, and script and printed lines are read here once more. Its picture is
+taken from the drawn shapes, not from how they came about: the units' cells by their places, then which cells each bar,
+band and box covers, which row name stands beside it and which text in it; letters by the cells that they stand above,
+and behind each letter the text; questions with their bytes and answers. Blanks of a trace must be there one by one.
+Texts may not lie upon one another or outside the picture, and must be large enough on a screen and on a page. Damaged
+pictures must be found out, and bad input must give a message, a status and no picture. The pictures of runs in
+docs/pictures must be what the tool makes of their scripts, byte for byte, and docs/PICTURES.md must have what tshark prints.
 
 The capture of every script is cut back into units, and tshark reads all of them in one call: H1 and H2 must be those of
 the unit as fed, worked out from the script and the source's printed words; J1 the byte where the dissector looks for it.
 """
 
+import contextlib
+import io
 import os
 import re
 import struct
@@ -23,16 +27,21 @@ import xml.etree.ElementTree as ET
 sys.dont_write_bytecode = True
 ROOT = os.path.dirname(os.path.dirname(os.path.abspath(__file__)))
 sys.path.insert(0, os.path.join(ROOT, "tools"))
-import pcap  # for the setting by which tshark knows the link type
+import pcap
+import script as tools_script  # for timeline.picture_of alone: what is expected is read here
 import timeline
-from playing import play, run
+from playing import play, read_line, refused_at_once, run, trace_of
 
 TIMELINE, PCAP = os.path.join(ROOT, "tools", "timeline.py"), os.path.join(ROOT, "tools", "pcap.py")
 KEPT = {"steps.svg": "examples/steps.bench", "worst.svg": "examples/settling/worst.bench"}
 OTHERS = ["crates.svg"]  # no run: tools/crates.py makes and compares it
 NAMES = "dUNEQ dTIM dPLM dRDI SSF TSF AIS RDI cAIS cLOP cSSF cUNEQ cTIM cRDI cPLM".split(" ")
+ON_TESTER = dict(zip(NAMES[8:], "AU-AIS AU-LOP HP-SSF HP-UNEQ HP-TIM HP-RDI HP-PLM".split(" ")))
 NEAR = 3  # how far a bar's edge may lie from the edge of a cell
 NARROW = "fijlrtI .,:;'!|()[]-\u00a0"
+SCREEN, PAGE = (1920, 1080), (277, 190)  # dots; millimetres within the margins of A4, laid across
+LEAST_DOTS, LEAST_MILLIMETRES = 9, 1.3  # of the smallest letters on them, in the scripts of examples and lessons
+BLANK = "\u00b7"  # a blank of a trace
 
 SHOWN = 8  # faults of one thing
 
@@ -45,15 +54,17 @@ def fault(what, text):
         print(f"pictures.py: {what}: {text}")
 
 
-SPACES = "20" * 15
-# What the examples do not have: lines of other lengths among units, all that can be done to a line, refusals of every call,
-# lines that are not understood or not about the path, characters that XML has for itself.
+RECORD, OTHER_RECORD = "5A4D0007123033453520202020202020202020200F", "5A4D00081220202020205D20205B202020202020200F"
+# What the examples do not have: lines of other lengths among units, all that can be done to a line, refusals of every call, at places where
+# the sink is called next and where it is not, lines that are not understood or not about the path, questions between notes, traces with blanks,
+# quotes and brackets in them, comments behind commands, characters that XML has for itself.
 ODD = f"""# Odd: <&> "quoted", and a word of {"many" * 30} letters; a sentence that ends. And one that
 # goes on in the second line.
 sink
 src -
-sink
+sink # behind it, "a  b" and   three
 Sink
+tx 12 "not closed 0 0
 len 2357
 sink
 sink
@@ -62,7 +73,7 @@ sink
 src i
 xor 0 01
 xor 3 80
-xor 9 FF
+xor 9 ff
 sink
 ones
 sink
@@ -73,41 +84,58 @@ sink
 #
 # not marked
 
-lens 10 2349
+  lens   10 2349
 sink
-lens 2349 2349
-fill 00 11
-tx 00 {SPACES} 0 0
+lens 2349 2349 # the right ones
+fill 00 1a
+tx 00 "" 0 0
 src -
-tx 01 {SPACES} 0 1
-rx 01 {SPACES[2:]}1F 15
+tx 01 "a  b ""c"" ]" 0 1
+rx 01 {"20" * 14}1F 15
+# what was asked stands between two texts of one place
+cat {RECORD}
+rx 01 " [x]  " 9
 src d
 src i
 sink
-rx 02 {SPACES} 15
+rx 02 "" 15
 sink
 # see: nothing
 fresh
 len 3
 sink
+word 6800
 len 0
 sink
 payload 0
+# a comment above what is not drawn
 payload 1
 cat 00
 list 00
 list
-list 5A4D0007123033453520202020202020202020200F
+list {RECORD}
+list {RECORD}{OTHER_RECORD} # two
+cat {RECORD * 12}
 lookup 7
-parity 0102
+lookup 0007 {RECORD.lower()}
+parity {"0102" * 120}
 check
+check 8B{"41" * 15}
 read 6800
 show
+tx 12 "x" 9 0
+src -
+sink
+run 2
+tx 12 "x" 0 0
 src -
 src -
 src -
 sink
 # {"long " * 60}
+run 2 # of two units the first
+# Question: is this to be seen?
+# No, and this is not either.
 src -
 sink
 src -
@@ -116,17 +144,19 @@ src -
 
 def long_run(units):
     """Many units with something among them everywhere, so that it comes at the edges of bands too."""
-    lines = ["# A long run", f"rx 01 {SPACES} 15"]
+    lines = ["# A long run", '# Not of the title', 'rx 01 "" 15', 'tx 01 "" 0 0']
     for k in range(units):
         lines += {3: ["# comment"], 7: ["src i", "sink"], 11: ["src d"], 12: ["src -", "ones", "sink", "sink", "sink"], 17: ["len 2350", "sink"],
-                  19: ["src -", "word 0800", "sink", "xor 100 07"], 22: [f"tx 0{1 + k % 2} {SPACES} {k % 9} {k % 2}"]}.get(k % 23, [])
-        lines += ["src -", "sink"] + ["fresh"] * (k in (77, 78, 79, 150))
+                  19: ["src -", "word 0800", "sink", "xor 100 07"], 22: [f'tx 0{1 + k % 2} "" {k % 10} {k % 2}'], 5: ["rx FF \"\" 1", "sink", 'rx 01 "" 15']}.get(k % 23, [])
+        lines += ["run 1"] + ["fresh"] * (k in (77, 78, 79, 150))
     return "\n".join(lines) + "\n"
 
 
 def scripts(folder):
     """Name and path of every script: those of examples and lessons, and some that are made here."""
-    for name, text in (("odd", ODD), ("odd with one unit", "src -\nsink\n"), ("odd and long", long_run(300)), ("odd and 26 units", long_run(17))):
+    made = {"odd": ODD, "odd with one unit": "run 1\n", "odd and long": long_run(300), "odd and 26 units": long_run(17), "odd and refused": "rx 00 \"\" 0\n" * 90,
+            "odd questions": f"check\nrx 12 \"a  b\" 15 # c\n? # d\n# \"e  f\"\ncat {RECORD}\n"}
+    for name, text in made.items():
         with open(os.path.join(folder, f"{name}.bench"), "w", encoding="ascii") as file:
             file.write(text)
         yield name, file.name
@@ -139,82 +169,247 @@ def scripts(folder):
 
 
 # ---------------------------------------------------------------------------
-# What was printed, read once more
+# Script and printed lines, read once more
 # ---------------------------------------------------------------------------
 
 
 class Call:
-    """A call of the sink: what was printed of it, and the pointer word and length of the line that it was fed; `marks`: what
-    is to be said of the line, without blanks, each in a long or a short form, and "" where it may be left out."""
+    """A call of the sink, or another that was refused: what was printed of it, and the pointer word and length of the line that the sink was fed;
+    `marks`: what is to be said of the line, without blanks, each in a long or a short form, and "" where it may be left out."""
 
-    def __init__(self, text, fresh, word, length, marks):
-        self.refused = int(text.split(" ")[1]) if text.startswith("refused") else None
-        self.fresh, self.word, self.length, self.marks, self.unit = fresh, word, length, marks, None
+    def __init__(self, text, fresh, word=None, length=None, marks=()):
+        self.refused = text if " refused " in f" {text}" else None
+        self.fresh, self.word, self.length, self.marks, self.unit = fresh, word, length, list(marks), None
         if self.refused is None:
             parts = [part.partition("=") for part in text.split(" ")[1:]]
             self.said = {key: value for key, _, value in parts if key != "c"}
             ended = [value.split(",") for key, _, value in parts if key == "c"]
             self.violations = sum(int(container[2][2:]) for container in ended)
             self.returned = sum(int(container[3][3:]) for container in ended)
-            bits = "".join(self.said[key] for key in ("d", "ssf", "tsf", "ais", "rdi", "cause"))
-            self.standing = [name for name, bit in zip(NAMES, bits) if bit == "1"]
+            actions = [name for name in NAMES[4:8] if self.said[name.lower()] == "1"]
+            self.standing = [name for name in NAMES if name in self.said["d"].split(",") + actions + self.said["cause"].split(",")]
 
 
-def calls_of(script, printed):
-    """The calls of the sink, with the line as it was: by the words that the source printed and what was done to them."""
-    answers = iter([line for line in printed if re.match(r"(unit|container refused|ok|refused|\?) ", line)])
-    upcoming = next(answers, None)
-    calls, fresh, length, h1, h2 = [], True, 2358, 0, 0
-    sent, step, filled, marks, was_fed = 0, [], [("all00",)], [], False  # of the line, and since the sink was fed
-    for number, line in enumerate(script, 1):
-        name, *given = line.split(" ")
-        if line.startswith("#"):
-            continue
-        if upcoming == f"? {number}":
-            upcoming = next(answers, None)
-        elif name in ("src", "sink"):
-            if name == "sink":
-                changed = [mark for mark in marks if "xor" in mark[0]]
-                if len(changed) > 1:
-                    marks = [mark for mark in marks if mark not in changed] + [(f"{len(changed)}bytesxor",)]
-                refusals = [mark for mark in marks if "refused" in mark[0]]
-                again = [("again", "") if marks else ("again",)] if was_fed and not sent and not refusals and not filled else []
-                skipped = [(f"{sent - 1}notfed",)] if sent > 1 else []
-                calls.append(Call(upcoming, fresh, h1 << 8 | h2, length, skipped + (filled or step) + marks + again))
-                fresh = fresh and calls[-1].refused is not None
-                sent, step, marks, was_fed = 0, [], [], True
-            elif "refused" in upcoming:
-                length = 2358 if upcoming.startswith("unit") else length
-                number = upcoming.split(" ")[-1]
-                marks.append((f"sourcerefused{number}", f"refused{number}"))
+def squeezed(text):
+    """Without blanks, but for those of a trace, which are to be seen."""
+    return re.sub("[ \u00a0]", "", text)
+
+
+def trace_shown(data):
+    return ("[" + data.decode("ascii").replace(" ", BLANK) + "]") if all(0x20 <= byte <= 0x7E for byte in data) else data.hex().upper()
+
+
+def prose(text):
+    return squeezed(re.sub('"[^"]{1,15}"', lambda found: found[0].replace(" ", BLANK), text))
+
+
+class Reading:
+    """The calls, and in their order what is said of their places and what was asked; a script of None is one that is not known."""
+
+    def __init__(self, script, printed):
+        self.printed, self.place = printed, 0
+        self.calls, self.remarks, self.refusals = [], [], 0
+        self.renew()
+        self.of_script, self.title = script is not None, None if script is None else heading_of(script)
+        if script is None:
+            while self.upcoming is not None:
+                self.answered(self.take())
+        else:
+            self.follow(script)
+        self.source_alone()
+        if self.sent and script is not None:
+            self.say(f"{self.sent if self.sent > 1 else 'one'}moresentandnotfed")
+        total = None
+        for number, call in enumerate((call for call in self.calls if call.refused is None), 1):
+            call.unit = number
+            if script is None:  # then a total that does not go on tells of `fresh`
+                now = int(call.said["total"])
+                call.fresh, total = total is not None and now != total + (call.said["settled"] == "0"), now
+
+    @property
+    def upcoming(self):
+        return self.printed[self.place] if self.place < len(self.printed) else None
+
+    def take(self):
+        self.place += 1
+        return self.printed[self.place - 1]
+
+    def renew(self):
+        self.fresh, self.length, self.h1, self.h2 = True, 2358, 0, 0
+        # of the line, and since the sink was fed; `source` is a refusal of the source that was the last thing printed
+        self.sent, self.step, self.filled, self.marks, self.was_fed, self.source = 0, [], [("all00",)], [], False, None
+
+    def source_alone(self):
+        if self.source:
+            self.calls.append(Call(self.source, self.fresh))
+            self.source = None
+
+    def say(self, text):
+        self.remarks.append((len(self.calls), text))
+
+    def answered(self, text, asked=None):
+        """What a call printed that has to do with the path."""
+        self.refusals += re.fullmatch(r"((container|unit|tx|rx) )?refused \d+", text) is not None
+        if re.match("(ok|refused) ", text):
+            changed = [mark for mark in self.marks if "xor" in mark[0]]
+            marks = [mark for mark in self.marks if mark not in changed] + [(f"{len(changed)}bytesxor",)] if len(changed) > 1 else list(self.marks)
+            if self.was_fed and not self.sent and not self.source and not self.filled:
+                marks.append(("again", "") if marks else ("again",))
+            marks += [(f"{self.sent - 1}notfed",)] if self.sent > 1 else []
+            marks += [(squeezed(self.source), "refused" + self.source.split(" ")[-1])] if self.source else []
+            self.calls.append(Call(text, self.fresh, self.h1 << 8 | self.h2, self.length, (self.filled or (self.step if self.sent else [])) + marks))
+            self.fresh = self.fresh and self.calls[-1].refused is not None
+            self.sent, self.marks, self.was_fed, self.source = 0, [], True, None
+            return
+        self.source_alone()
+        if re.match("(container|unit) refused ", text):
+            self.source = text
+            self.length = 2358 if text.startswith("unit") else self.length
+        elif re.match("(tx|rx) refused ", text):
+            self.calls.append(Call(text, self.fresh))
+        elif text.startswith("unit "):
+            found = re.search(r" word=(..)(..) fnv=\S+ off=(\d+)", text)
+            self.length, self.h1, self.h2 = 2358, int(found[1], 16), int(found[2], 16)
+            self.sent, self.filled, self.was_fed, self.marks = self.sent + 1, [], False, []
+            self.step = {"i": [("increment",)], "d": [("decrement",)]}.get(asked, [])
+
+    def follow(self, script):
+        """Line by line. Noted are comments right above a command and behind it, and what is set."""
+        above = []
+        for number, line in enumerate(script, 1):
+            words, comment = read_line(line)
+            comment = comment.lstrip("#").strip().removeprefix("not understood:").strip()
+            if words == []:
+                above = above + [comment] * (not comment.startswith("see:")) if comment else []
+                continue
+            told = [text for k, text in enumerate(above) if not any(earlier.startswith(("Question:", "Answer:")) for earlier in above[: k + 1])]
+            told = prose(" ".join(told).removeprefix(self.title or "").strip())
+            above, behind = [], "" if comment.startswith("see:") else prose(comment)
+            if self.upcoming == f"? {number}":
+                self.take()
+                self.source_alone()
+                self.say(told)
+                shown = (" ".join(words) if words else line).replace(" ", BLANK)
+                self.say(f"line{number}notunderstood:{shown[:40]}\0" + (f"#{behind}" if behind else ""))
+            elif words[0] == "run":
+                self.source_alone()
+                self.say(told)
+                self.say(behind)
+                for _ in range(int(words[1])):
+                    self.answered(self.take(), "-")
+                    self.answered(self.take())
             else:
-                length = 2358
-                found = re.search(r" word=(..)(..) ", upcoming)
-                h1, h2 = int(found[1], 16), int(found[2], 16)
-                sent, filled, was_fed = sent + 1, [], False
-                step = {"i": [("increment",)], "d": [("decrement",)]}.get(given[0], [])
-                marks = [mark for mark in marks if "refused" in mark[0]]
-            upcoming = next(answers, None)
+                self.command(words, told, behind)
+
+    def command(self, words, told, behind):
+        name, *given = words
+        if name != "sink":
+            self.source_alone()
+        if name in ("cat", "lookup", "list", "parity", "check", "read"):
+            data = given[-1] if len(given) > (name == "lookup") else ""
+            answers = [self.take()]
+            while answers[0].startswith("circuit ") and len(answers) <= len(data) // 42:
+                answers.append(self.take())
+            number = f" {int(given[0])}" if name == "lookup" else ""
+            self.remarks.append((self.units_before(), told + behind, name + number, data.upper(), answers[1:] or answers))
+            return
+        own = ""
+        if name == "tx":
+            returned = f",{int(given[2])}violationsreturned" if int(given[2]) else ""
+            own = f"sent:label{given[0].upper()}{trace_shown(trace_of(given[1]))}{returned},{'no' if int(given[3]) == 0 else ''}remotedefect"
+        elif name == "rx":
+            flags = int(given[2])
+            reported = ",".join(each for bit, each in ((2, "RDI"), (4, "SSF"), (8, "AIS")) if flags & bit) or "nothing"
+            own = f"expected:label{given[0].upper()}{trace_shown(trace_of(given[1]))},{'' if flags & 1 else 'not'}monitored,{reported}reported"
+        elif name == "fill":
+            own = f"heldfilledwith{given[0].upper()},donewith{given[1].upper()}"
+        elif name == "lens":
+            own = f"heldof{int(given[0])}bytes,doneof{int(given[1])}"
+        elif name == "fresh" and self.calls:
+            own = "fresh:sources,sinkandtotalbeginanew"
+        if name not in ("show", "payload"):
+            self.say(told)
+            self.say(own + (f"#{behind}" if own and behind else behind))
+        if name in ("src", "sink", "show", "payload") or name in ("tx", "rx") and refused_at_once(words):
+            text = self.take()
+            self.answered(text, *given[:1])
+            if name == "payload" and "refused" in text:
+                self.say(squeezed(text))
         elif name == "fresh":
-            fresh, length, h1, h2 = True, 2358, 0, 0
-            sent, step, filled, marks, was_fed = 0, [], [("all00",)], [], False
+            self.renew()
         elif name == "ones":
-            h1 = h2 = 0xFF
-            filled, marks = [("allones",)], [mark for mark in marks if "refused" in mark[0]]
+            self.h1 = self.h2 = 0xFF
+            self.filled, self.marks = [("allones",)], []
         elif name == "word":
-            h1, h2 = int(given[0][:2], 16), int(given[0][2:], 16)
-            marks.append((f"word{given[0]}",))
+            self.h1, self.h2 = int(given[0][:2], 16), int(given[0][2:], 16)
+            self.marks.append((f"word{given[0].upper()}",))
         elif name == "xor":
-            h1 ^= int(given[1], 16) if given[0] == "0" else 0
-            h2 ^= int(given[1], 16) if given[0] == "3" else 0
-            marks.append((f"byte{given[0]}xor{given[1]}", f"xor{given[1]}"))
+            self.h1 ^= int(given[1], 16) if int(given[0]) == 0 else 0
+            self.h2 ^= int(given[1], 16) if int(given[0]) == 3 else 0
+            self.marks.append((f"byte{int(given[0])}xor{given[1].upper()}", f"xor{given[1].upper()}"))
         elif name == "len":
-            length = int(given[0])
-            h1, h2 = h1 if length >= 1 else 0, h2 if length >= 4 else 0
-            marks.append((f"{length}bytes",))
-    for number, call in enumerate((call for call in calls if call.refused is None), 1):
-        call.unit = number
-    return calls
+            self.length = int(given[0])
+            self.h1, self.h2 = self.h1 if self.length >= 1 else 0, self.h2 if self.length >= 4 else 0
+            self.marks.append((f"{self.length}bytes",))
+
+    def units_before(self):
+        return sum(1 for call in self.calls if call.refused is None)
+
+    def remarks_told(self):
+        """All that stands below the bands in the order in which it is read: a letter in braces, a question in angles; \\0 is any text. And for each
+        letter its place."""
+        merged, notes, when = [], {}, None
+        for remark in self.remarks:
+            if len(remark) > 2:
+                units, comment, asked, data, answers = remark
+                head = "" if units == when or not any(call.unit for call in self.calls) else f"afterunit{units}" if units else "beforeunit1"
+                when = units
+                most = 8 * (42 if asked.split(" ")[0] in ("cat", "lookup", "list") and len(data) % 42 == 0 else 48)  # digits that are drawn
+                data = data if len(data) <= most else f"{data[:most]}({len(data) // 2})"
+                merged.append([f"{head}{comment}<{asked}|{data}|{'|'.join(answers)}>"])
+                continue
+            place, text = remark
+            unit = self.calls[place].unit if place < len(self.calls) else None
+            text = re.sub(rf"^[Uu]nit{unit}([.:]|$)", "", text) if unit and text else text
+            if not text:
+                continue
+            if not self.calls:
+                merged.append([text])
+            elif place in notes:
+                notes[place].append(text)
+            else:
+                head = "attheend" if place == len(self.calls) else squeezed(self.calls[place].refused or f"unit{unit}")
+                notes[place] = [head, text]
+                merged.append(notes[place])
+        letters = {place: letter_of(k) for k, place in enumerate(notes)}
+        marked = {id(texts): letters[place] for place, texts in notes.items()}
+        return "".join((f"{{{marked[id(texts)]}}}" if id(texts) in marked else "") + "".join(texts) for texts in merged), letters
+
+
+def letter_of(k):
+    return chr(65 + k) if k < 26 else letter_of(k // 26 - 1) + chr(65 + k % 26)
+
+
+def heading_of(script):
+    """The first comment's first sentence with as many more as make at most 110 characters, of its first line and of those into which a sentence goes
+    on; None where there is none."""
+    block = []
+    for line in script:
+        words, comment = read_line(line)
+        comment = comment.lstrip("#").strip()
+        if words == [] and comment:
+            if not block or not (block[-1][-1] in ".?!:" or len(block[-1]) < 70 and comment[0].isupper()):
+                block.append(comment)
+                continue
+        if block:
+            break
+    if not block:
+        return None
+    parts = re.split(r"(?<=[.?!]) +", " ".join(block))
+    title = parts.pop(0)
+    while parts and len(title) + 1 + len(parts[0]) <= 110:
+        title += " " + parts.pop(0)
+    return title
 
 
 # ---------------------------------------------------------------------------
@@ -227,15 +422,18 @@ class Shape:
 
     def __init__(self, element):
         self.kind = element.tag.rpartition("}")[2]
-        self.text = element.text or ""
-        self.classes, self.row = element.get("class", ""), element.get("data-row")
-        self.unit = element.get("data-unit")
+        self.classes, self.row, self.unit = element.get("class", ""), element.get("data-row"), element.get("data-unit")
+        self.text = "".join(element.itertext())
+        self.bold = element.get("font-weight") == "bold"
         if self.kind == "rect":
             self.x, self.y, self.width, self.height = (float(element.get(key, "0")) for key in ("x", "y", "width", "height"))
         else:
             self.size = float(element.get("font-size"))
+            self.fixed = [part for part in element if part.get("class") == "fixed"]
+            of_one_width = sum(len("".join(part.itertext())) for part in self.fixed)
+            others = (element.text or "") + "".join(part.tail or "" for part in element)
             # letters by and large; the foot lies a third of their size below their middle
-            long = self.size * sum(0.28 if letter in NARROW else 0.54 for letter in self.text)
+            long = self.size * (sum(0.28 if letter in NARROW else 0.54 for letter in others) + 0.59 * of_one_width)
             before = {"start": 0, "middle": 0.5, "end": 1}[element.get("text-anchor")]
             turned = re.fullmatch(r"translate\((\S+) (\S+)\) rotate\(-90\)", element.get("transform", ""))
             if turned:
@@ -244,11 +442,7 @@ class Shape:
             else:
                 foot, along = float(element.get("y")), float(element.get("x"))
                 self.x, self.y, self.width, self.height = along - long * before, foot - 0.7 * self.size, long, 0.7 * self.size
-        self.bold = element.get("font-weight") == "bold"
-
-    @property
-    def middle(self):
-        return self.x + self.width / 2, self.y + self.height / 2
+        self.middle = self.x + self.width / 2, self.y + self.height / 2
 
     def has(self, x, y):
         return self.x <= x <= self.x + self.width and self.y <= y <= self.y + self.height
@@ -260,6 +454,7 @@ class Picture:
         if root.tag != "{http://www.w3.org/2000/svg}svg":
             raise ValueError(f"the root is {root.tag}")
         self.width, self.height = (float(number) for number in root.get("viewBox").split(" ")[2:])
+        self.sized = root.get("width") or root.get("height")
         self.title = next(element.text for element in root.iter() if element.tag.endswith("}title"))
         # what stands in a pattern is no shape of the picture
         shapes = [Shape(element) for element in root if element.tag.rpartition("}")[2] in ("rect", "text")]
@@ -267,6 +462,8 @@ class Picture:
         self.rects = [shape for shape in shapes if shape.kind == "rect" and shape.row]
         self.texts = [shape for shape in shapes if shape.kind == "text"]
         self.plain = [shape for shape in shapes if shape.kind == "rect"]
+        self.flags = [shape for shape in shapes if shape.classes == "flag" and shape.kind == "rect"]
+        self.bottom = max((cell.y + cell.height for cell in self.cells), default=0)
 
     def of(self, *rows):
         return [rect for rect in self.rects if rect.row in rows]
@@ -282,6 +479,51 @@ class Picture:
             return []
         last = inside[-1][1]
         return [k for k, _ in inside] if abs(last.x + last.width - shape.x - shape.width) <= NEAR else []
+
+    def letters(self):
+        """The letters above the bands, each with the place of its cell: that of the last cell and one more where it stands behind it."""
+        found = {}
+        for flag in self.flags:
+            below = [cell.y for cell in self.cells if cell.y >= flag.y + flag.height - 1]
+            if not below:
+                continue
+            band = [(k, cell) for k, cell in enumerate(self.cells) if cell.y == min(below)]
+            middle = flag.middle[0]
+            place = next((k for k, cell in band if cell.x <= middle <= cell.x + cell.width), band[-1][0] + 1 if middle > band[-1][1].x else None)
+            found[place] = "".join(text.text for text in self.in_it(flag))
+        return found
+
+    def remarks(self):
+        """What stands below the bands, as Reading has it: column by column."""
+        below = [shape for shape in self.flags + self.texts if shape.y > self.bottom and shape.classes not in ("pale", "light")]
+        below = [shape for shape in below if shape.kind == "rect" or shape.size < 36]
+        edges = sorted({round(shape.x) for shape in below if shape.kind == "rect"} | {round(shape.x) - 20 for shape in below if shape.row == "asked"})
+        edges = [edge for k, edge in enumerate(edges) if k == 0 or edge > edges[k - 1] + 5]
+        found = []
+        for edge, end in zip(edges, edges[1:] + [self.width]):
+            column = sorted((shape for shape in below if edge - 2 <= shape.x < end - 2), key=lambda shape: (round(shape.middle[1]), shape.x))
+            for shape in column:
+                if shape.kind == "rect":
+                    found.append("{" + "".join(text.text for text in self.in_it(shape)) + "}")
+                elif shape.row == "asked":
+                    # its lines go down to the next text that is none of it
+                    ends = min((other.y for other in column if other.y > shape.y + 9 and other.row not in ("bytes", "answer")), default=self.height)
+                    rows = {row: [other.text for other in column if other.row == row and shape.y - 9 < other.y < ends - 9] for row in ("bytes", "answer")}
+                    data = "".join(map(digits_of, rows["bytes"]))
+                    answers = "|".join(text.replace("\u00a0", " ").replace(BLANK, " ") for text in rows["answer"])
+                    found.append(f"<{shape.text}|{data}|{answers}>")
+                elif shape.row is None:
+                    found.append(squeezed(shape.text))
+        return "".join(found)
+
+
+def digits_of(text):
+    """The hex digits of bytes that are drawn: a trace stands in brackets. Of many bytes the number is told, in parentheses."""
+    more = re.fullmatch(r"and\u00a0so\u00a0on:\u00a0(\d+)\u00a0bytes", text)
+    if more or text == "no\u00a0bytes":
+        return f"({more[1]})" if more else ""
+    text = re.sub(r"\[(.*)\]", lambda found: found[1].replace(BLANK, " ").encode("ascii").hex().upper(), text)
+    return text.replace("\u00a0", "")
 
 
 def intervals(calls, name):
@@ -303,13 +545,14 @@ def interval_texts(first, last, units):
     return {f"from {first} on", f"{first}\u2013"} if last == units else {f"{first} to {last}", f"{first}\u2013{last}"}
 
 
-def faults_of(data, calls, heading):
-    """What is wrong with a picture of these calls; `heading` is its title, None without a script."""
+def faults_of(data, reading, every_row=False):
+    """What is wrong with a picture of what was read."""
     try:
         picture = Picture(data)
     except (ET.ParseError, ValueError, AttributeError, TypeError, KeyError, StopIteration) as error:
         yield f"no picture: {error}"
         return
+    calls = reading.calls
     units = [call for call in calls if call.unit]
     if [cell.unit for cell in picture.cells] != [str(call.unit) if call.unit else None for call in calls]:
         yield f"{len(picture.cells)} cells, not those of {len(units)} units and {len(calls) - len(units)} refused calls"
@@ -317,6 +560,25 @@ def faults_of(data, calls, heading):
     for one, other in zip(picture.cells, picture.cells[1:]):
         if not (one.y == other.y and abs(one.x + one.width - other.x) < 0.2 or other.y >= one.y + one.height and other.x <= one.x):
             yield f"the cells of unit {one.unit} and unit {other.unit} do not follow one another"
+    yield from column_faults(picture, calls, units, every_row)
+    yield from line_faults(picture, reading)
+    # title and count
+    if reading.title is not None:
+        title = " ".join(text.text for text in picture.texts if text.bold and text.size >= 36)
+        if picture.title != reading.title or squeezed(title) != prose(reading.title):
+            yield f"the title is {title!r}, not {reading.title!r}"
+    unsettled = sum(1 for call in units if call.said["settled"] == "0")
+    told = [f"{len(units)} units: {unsettled} unsettled, {len(units) - unsettled} settled" if len(units) > 1 else
+            f"1 unit, {'unsettled' if unsettled else 'settled'}"] * (len(units) > 0)
+    questions = sum(1 for remark in reading.remarks if len(remark) > 2)
+    told += [f"{count} {what}{'s' if count > 1 else ''}" for count, what in ((reading.refusals, "refusal"), (questions, "question")) if count]
+    if "; ".join(told) not in [text.text for text in picture.texts]:
+        yield f"nowhere is told: {'; '.join(told)}"
+    yield from layout_faults(picture)
+
+
+def column_faults(picture, calls, units, every_row):
+    """What is wrong with the rows."""
 
     def covered(*rows):
         """For each place the shapes of these rows that cover it."""
@@ -330,7 +592,7 @@ def faults_of(data, calls, heading):
         return by_place
 
     yield_later = []
-    left = picture.cells[0].x
+    left = picture.cells[0].x if calls else 0
     # bars: where they stand, beside which name, with which units
     for name in NAMES:
         drawn = [call.unit for call, shapes in zip(calls, covered(name)) for _ in shapes]
@@ -339,19 +601,26 @@ def faults_of(data, calls, heading):
             yield f"{name} is drawn in units {drawn}, and stands in {expected}"
         stands = intervals(calls, name)
         for rect in picture.of(name):
-            beside = [text.text for text in picture.texts if text.x + text.width <= left and rect.y <= text.middle[1] <= rect.y + rect.height and text.bold]
-            if beside != [name]:
-                yield f"a bar of {name} stands beside the name {beside}"
+            beside = [text for text in picture.texts if text.x + text.width <= left and rect.y <= text.middle[1] <= rect.y + rect.height]
+            if [text.text for text in beside if text.bold] != [name]:
+                yield f"a bar of {name} stands beside the name {[text.text for text in beside if text.bold]}"
+            if [text.text for text in beside if "-" in text.text] != [ON_TESTER.get(name)] * (name in ON_TESTER):
+                yield f"a bar of {name} has the names {[text.text for text in beside]}"
             # a text behind a bar, up to the next one, is that bar's
             row = [other for other in picture.of(name) if other.y == rect.y]
             end = min((other.x for other in row if other.x > rect.x), default=picture.width)
             texts = [text.text for text in picture.texts
                      if rect.x <= text.middle[0] < end and text.x > left - NEAR and rect.y <= text.middle[1] <= rect.y + rect.height
-                     and not text.text.startswith("refused")]
+                     and " refused " not in f" {text.text}"]
             at = calls[(picture.covered(rect) or [0])[0]].unit
             allowed = [interval_texts(first, last, len(units)) for first, last in stands if first <= (at or 0) <= last]
             if len(texts) > 1 or any(text not in allowed[0] for text in texts if allowed):
                 yield f"a bar of {name} from unit {at} on is labelled {texts}"
+    # what never stands is named at the foot
+    foot = " ".join(text.text for text in picture.texts if text.classes == "pale" and text.y > picture.bottom and calls)
+    never = [] if every_row or not units else [name for name in NAMES if not any(name in call.standing for call in units)]
+    if re.findall(r"\b(?:[cd]?(?:[A-Z]{3,4}))\b", foot.replace("Not once", "")) != never:
+        yield f"at the foot there is {foot!r}, and not once stand {never}"
     # bands and boxes, unit by unit
     states, settled = covered("state"), covered("settled", "unsettled")
     offsets, violations, returned = covered("offset"), picture.of("violations"), picture.of("returned")
@@ -360,10 +629,10 @@ def faults_of(data, calls, heading):
         what = f"unit {call.unit}"
         if not call.unit:
             texts = [text.text for rect in refused[place] for text in picture.in_it(rect)]
-            if texts != [f"refused {call.refused}"]:
-                yield f"refused call {place + 1} of the sink is marked {texts}, not with {call.refused}"
+            if texts != [call.refused]:
+                yield f"the refusal at place {place + 1} is marked {texts}, not {call.refused}"
             if states[place] or settled[place] or offsets[place]:
-                yield f"refused call {place + 1} of the sink is drawn as a unit"
+                yield f"the refusal at place {place + 1} is drawn as a unit"
             continue
         if refused[place]:
             yield f"{what} is drawn as refused"
@@ -400,48 +669,54 @@ def faults_of(data, calls, heading):
         totals = [int(calls[place].said["total"]) for place in places if calls[place].unit]
         numbers = [int(number) for number in re.findall(r"\d+", text.text)]
         # where a stretch is narrow its last total is enough
-        narrow = sum(picture.cells[place].width for place in places) < 80
+        narrow = sum(picture.cells[place].width for place in places) < 120
         if not totals or numbers not in ([totals[0], totals[-1]], [totals[-1]]) or len(numbers) < min(2, len(set(totals))) and not narrow:
             yield f"the total {text.text} stands where it is {totals[:1]} to {totals[-1:]}"
         told.update(places)
     if units and calls.index(units[-1]) not in told:
         yield "the last total is not told"
-    # what is said of the line: all of it, in any order, and nothing else
-    boxes = covered("sent")
-    for call, shapes in zip(calls, boxes if heading is not None else []):
-        text = "".join(re.sub(r"[ \u00a0,-]", "", text.text) for rect in shapes for text in picture.in_it(rect))
+    yield from yield_later
+
+
+def line_faults(picture, reading):
+    """What is wrong with that which only a script tells: what was done to the line, words, letters, notes and questions."""
+    if not reading.of_script:
+        return
+    for place, (call, cell) in enumerate(zip(reading.calls, picture.cells)):
+        boxes = [rect for rect in picture.of("sent") if rect.x <= cell.middle[0] <= rect.x + rect.width and cell.has(cell.middle[0], rect.middle[1])]
+        text = "".join(re.sub(r"[ \u00a0,-]", "", text.text) for rect in boxes for text in picture.in_it(rect))
         rest = text
         for forms in sorted(call.marks, key=lambda forms: -len(forms[0])):
             found = next((form for form in forms if form in rest), None)
             rest = rest + "?" if found is None else rest.replace(found, "", 1)
-        if rest or len(shapes) != (len(call.marks) > 0):
-            yield f"unit {call.unit} is marked {text!r} in {len(shapes)} boxes, and it is {call.marks}"
-    label = next((text.middle[1] for text in picture.texts if text.text == "word" and text.x < left), None)
-    if heading is not None and picture.cells[0].width >= 60 or label is not None:
+        if rest or len(boxes) != (len(call.marks) > 0):
+            yield f"place {place + 1}, unit {call.unit}, is marked {text!r} in {len(boxes)} boxes, and it is {call.marks}"
+    label = next((text.middle[1] for text in picture.texts if text.text == "word" and text.x < picture.cells[0].x), None) if reading.calls else None
+    if any(cell.width >= 60 and cell.unit for cell in picture.cells) or label is not None:
         words = [[text.text for text in picture.texts if cell.has(*text.middle) and abs(text.middle[1] - (label or 0)) < 9] for cell in picture.cells]
-        if words != [[f"{call.word:04X}"] * (call.length >= 4) for call in calls]:
+        if words != [[f"{call.word:04X}"] * (call.length >= 4) if call.word is not None else [] for call in reading.calls]:
             yield f"the words drawn are {words}"
-    # title and count
-    if heading is not None:
-        title = " ".join(text.text for text in picture.texts if text.bold and text.size >= 36)
-        if picture.title != heading or title.replace(" ", "") != heading.replace(" ", ""):
-            yield f"the title is {title!r}, not {heading!r}"
-    unsettled = sum(1 for call in units if call.said["settled"] == "0")
-    told = f"{len(units)} units: {unsettled} unsettled, {len(units) - unsettled} settled" if len(units) > 1 else \
-        f"1 unit, {'unsettled' if unsettled else 'settled'}" if units else ""
-    refusals = len(calls) - len(units)
-    told += ("; " if told and refusals else "") + (f"{refusals} call{'s' if refusals > 1 else ''} of the sink refused" if refusals else "")
-    if told not in [text.text for text in picture.texts]:
-        yield f"nowhere is told: {told}"
-    yield from yield_later
-    yield from layout_faults(picture)
+    told, letters = reading.remarks_told()
+    if picture.letters() != letters:
+        yield f"the letters stand at {picture.letters()}, and should at {letters}"
+    drawn = picture.remarks()
+    if not re.fullmatch(".+?".join(map(re.escape, told.split("\0"))), drawn):
+        same = len(os.path.commonprefix([told, drawn]))
+        yield f"below the bands there is, behind {drawn[max(0, same - 40) : same]!r}, {drawn[same : same + 60]!r}, and should be {told[same : same + 60]!r}"
+    for text in picture.texts:
+        for part in text.fixed:
+            blanks = "".join(inner.text or "" for inner in part if inner.get("class") == "blank")
+            if " " in "".join(part.itertext()) or blanks != BLANK * "".join(part.itertext()).count(BLANK):
+                yield f"blanks cannot be counted in {text.text}"
 
 
 def layout_faults(picture):
+    if picture.sized:
+        yield "a picture with a size of its own does not fit every screen"
     for shape in picture.plain + picture.texts:
         if shape.x < 0 or shape.y < 0 or shape.x + shape.width > picture.width or shape.y + shape.height > picture.height:
             yield f"cut off: {shape.row or shape.text or shape.classes}"
-    for shapes in (picture.texts, [shape for shape in picture.plain if shape.classes == "flag"]):
+    for shapes in (picture.texts, picture.flags):
         shapes = sorted(shapes, key=lambda shape: shape.y)
         for k, one in enumerate(shapes):
             for other in shapes[k + 1 :]:
@@ -451,69 +726,115 @@ def layout_faults(picture):
                     yield f"one upon the other: {one.text or 'a letter'} and {other.text or 'a letter'}"
 
 
-def heading_of(script):
-    """The first comment, but for a sentence that goes on in the line below; None where there is none."""
-    for line, below in zip(script, [*script[1:], ""]):
-        if line.startswith("#") and line.strip("# "):
-            text, below = line.lstrip("#").strip(), below.lstrip("#").strip() if below.startswith("#") else ""
-            end = max(text.rfind(mark) for mark in (". ", "? ", "! "))
-            return text[: end + 1] if below and not below[0].isupper() and end > 0 and text[-1] not in ".?!" else text
-    return None
+def size_faults(data):
+    """Where the smallest letters of a picture are too small on a screen or on a page."""
+    picture = Picture(data)
+    least = min(text.size for text in picture.texts)
+    for (width, height), limit, what in ((SCREEN, LEAST_DOTS, "dots on a screen"), (PAGE, LEAST_MILLIMETRES, "mm on a page")):
+        high = least * min(width / picture.width, height / picture.height)
+        if high < limit:
+            yield f"the smallest letters have {high:.1f} {what}"
 
 
-def check_picture(name, path, printed, script, calls, folder):
-    """The picture as a file, with its script; and what it is without the script, and with every row."""
-    heading, file = heading_of(script), os.path.join(folder, "picture.svg")
-    said_by_bench = os.path.join(folder, "printed")
+def in_process(tool, *arguments):
+    """A tool's run: status, standard output, standard error."""
+    said, errors, given = io.StringIO(), io.StringIO(), sys.argv
+    sys.argv = [tool.__file__, *arguments]
+    try:
+        with contextlib.redirect_stdout(said), contextlib.redirect_stderr(errors):
+            tool.main()
+        status = 0
+    except SystemExit as ended:
+        status = ended.code if isinstance(ended.code, int) else 1
+        errors.write("" if isinstance(ended.code, int) else str(ended.code))
+    finally:
+        sys.argv = given
+    return status, said.getvalue(), errors.getvalue()
+
+
+def check_picture(name, path, data, printed, folder):
+    """The picture as a file, with its script; and what it is without the script, and with every row. How many pictures there were, and the reading."""
+    file, said_by_bench = os.path.join(folder, "picture.svg"), os.path.join(folder, "printed")
+    script, lines = data.decode("utf-8", errors="replace").split("\n"), printed.decode("ascii").splitlines()
+    reading, alone = Reading(script[:-1] if script[-1] == "" else script, lines), Reading(None, lines)
     with open(said_by_bench, "wb") as written:
         written.write(printed)
-    done = run([sys.executable, TIMELINE, "--script", path, "-o", file, said_by_bench])
-    said = done.stderr.decode(errors="replace")
-    if not calls:
-        if done.returncode != 1 or "no unit" not in said or os.path.exists(file) or done.stdout:
-            fault(name, f"no unit in it, and the status is {done.returncode}: {said}")
-        return
-    if done.returncode != 0 or said or done.stdout:
-        fault(name, f"timeline.py: status {done.returncode}: {said[-500:]}")
-        return
+    status, said, errors = in_process(timeline, "--script", path, "-o", file, said_by_bench)
+    if status != 0 or said or errors:
+        fault(name, f"timeline.py: status {status}: {errors[-500:]}")
+        return 0, reading
     with open(file, "rb") as picture:
         drawn = picture.read()
     os.remove(file)
-    lines = printed.decode("ascii").splitlines()
-    for what, data, head in ((name, drawn, heading), (f"{name}, without the script", timeline.picture_of(lines), None),
-                             (f"{name}, every row", timeline.picture_of(lines, script, every_row=True), heading)):
-        for text in faults_of(data, calls, head):
+    every_row = timeline.picture_of(lines, tools_script.read(data), every_row=True)
+    pictures = [(name, drawn, reading, False), (f"{name}, every row", every_row, reading, True)]
+    if alone.calls:
+        pictures.append((f"{name}, without the script", timeline.picture_of(lines), alone, False))
+    for what, picture, read, every in pictures:
+        for text in faults_of(picture, read, every):
             fault(what, text)
+    for text in size_faults(drawn) if not name.startswith("odd") else ():
+        fault(name, text)
+    return len(pictures), reading
 
 
 # ---------------------------------------------------------------------------
 # Damage, bad input, kept pictures
 # ---------------------------------------------------------------------------
 
-# Edits of the picture of examples/steps.bench, each of which must be found out.
-DAMAGE = [
-    ("a bar shorter by a unit", r'(class="defect" data-row="dTIM"/>)', r'\1', ("width", -195)),
-    ("a bar later by a unit", r'(class="action" data-row="SSF"/>)', r'\1', ("x", 195)),
-    ("a bar gone", r'<rect [^>]*class="cause" data-row="cLOP"/>\n', "", None),
-    ("a bar of another name", r'data-row="TSF"', 'data-row="AIS"', None),
-    ("a row of another name", r">TSF<", ">SSF<", None),
-    ("a bar with other units", r">from 3 on<", ">from 2 on<", None),
-    ("another state", r'class="lost" data-row="state"', 'class="alarm" data-row="state"', None),
-    ("a state with another name", r">lost<", ">alarm<", None),
-    ("a container too few", r'<rect [^>]*class="ended" data-row="ended"/>\n', "", None),
-    ("a cell too few", r'<rect [^>]*class="unit" data-unit="8"/>\n', "", None),
-    ("another total", r'(data-row="total"[^>]*>)8<', r"\g<1>7<", None),
-    ("settled", r'class="unsettled" data-row="unsettled"', 'class="settled" data-row="settled"', None),
-    ("another title", r"offset 0 ends no", "offset 1 ends no", None),
-    ("another count", r">8 units: 8 unsettled", ">8 units: 7 unsettled", None),
-    ("a text upon another", r'(<text [^>]*)y="[^"]*">increment<', r'\1y="190">increment</text>\n\1y="192">decrement<', None),
-    ("no XML", r"</svg>", "", None),
-]
+# Edits of the pictures of these scripts, each of which must be found out. A shape is moved by so many cells.
+DAMAGE = {
+    "examples/steps.bench": [
+        ("a bar shorter by a unit", r'class="defect" data-row="dTIM"/>', None, ("width", -1)),
+        ("a bar later by a unit", r'class="action" data-row="SSF"/>', None, ("x", 1)),
+        ("a bar gone", r'<rect [^>]*class="cause" data-row="cLOP"/>\n', "", None),
+        ("a bar of another name", r'data-row="TSF"', 'data-row="AIS"', None),
+        ("a row of another name", r">TSF<", ">SSF<", None),
+        ("another name on a tester", r">AU-LOP<", ">AU-AIS<", None),
+        ("a bar with other units", r">from 3 on<", ">from 2 on<", None),
+        ("another state", r'class="lost" data-row="state"', 'class="alarm" data-row="state"', None),
+        ("a state with another name", r">lost<", ">alarm<", None),
+        ("a container too few", r'<rect [^>]*class="ended" data-row="ended"/>\n', "", None),
+        ("a cell too few", r'<rect [^>]*class="unit" data-unit="8"/>\n', "", None),
+        ("another total", r'(data-row="total"[^>]*>)8<', r"\g<1>7<", None),
+        ("settled", r'class="unsettled" data-row="unsettled"', 'class="settled" data-row="settled"', None),
+        ("another title", r"offset 0 ends no", "offset 1 ends no", None),
+        ("another count", r">8 units: 8 unsettled", ">8 units: 7 unsettled", None),
+        ("a name missing at the foot", r"run: dUNEQ, ", "run: ", None),
+        ("a letter above another unit", r'class="flag" rx="4"/>', None, ("x", 1)),
+        ("a note of another unit", r">unit 4<", ">unit 5<", None),
+        ("a note with another text", r">P2: 0 to 1<", ">P2: 1 to 0<", None),
+        ("a text upon another", r'(<text [^>]*)y="[^"]*">increment<', r'\1y="190">increment</text>\n\1y="192">decrement<', None),
+        ("a size", r'<svg ', '<svg width="1920" height="1080" ', None),
+        ("no XML", r"</svg>", "", None),
+    ],
+    "lessons/04-traces-alike.bench": [
+        ("a blank too few", BLANK * 3 + "<", BLANK * 2 + "<", None),
+        ("blanks that are not seen", r'<tspan class="blank">·+</tspan>', "           ", None),
+        ("blanks in another face", r'class="blank"', 'class="ink"', None),
+    ],
+    "lessons/08-impossible-label.bench": [
+        ("a refusal of another call", r">tx refused 4</text>\n<rect", ">rx refused 4</text>\n<rect", None),
+        ("a refused setting under the next refusal", r'class="flag" rx="4"/>', None, ("x", 0.6)),
+        ("another label", r"expected: label FF", "expected: label 00", None),
+        ("a refusal too few", r'<rect [^>]*class="refused" data-row="refused"/>\n', "", None),
+        ("another count of refusals", r"\d+ refusals", "2 refusals", None),
+    ],
+    "lessons/02-03E5-is-a-name.bench": [
+        ("another answer", r">check\u00a01<", ">check\u00a00<", None),
+        ("another refusal", r"cat\u00a0refused\u00a013\u00a02\u00a01", "cat\u00a0refused\u00a013\u00a01\u00a02", None),
+        ("other bytes", r">8B\u00a0\[03E5", ">8B\u00a0[03E6", None),
+        ("a blank too few", BLANK * 3 + "<", BLANK * 2 + "<", None),
+        ("an answer too few", r'<text [^>]*data-row="answer"[^>]*>.*</text>\n', "", None),
+        ("another question", r">lookup 7<", ">lookup 8<", None),
+    ],
+}
 
 
-def check_damage(data, calls, heading):
+def check_damage(data, reading, edits):
     text = data.decode()
-    for what, pattern, replacement, moved in DAMAGE:
+    cell = float((re.search(r'<rect [^>]*width="([^"]*)"[^>]*class="unit"', text) or [0, 0])[1])
+    for what, pattern, replacement, moved in edits:
         found = re.search(pattern, text)
         if not found:
             fault("damage", f"{what}: nothing in the picture to be damaged")
@@ -521,15 +842,15 @@ def check_damage(data, calls, heading):
         if moved:
             start = text.rindex("<rect", 0, found.end())
             key, by = moved
-            element = re.sub(rf'\b{key}="([^"]*)"', lambda match: f'{key}="{float(match[1]) + by}"', text[start : found.end()], count=1)
+            element = re.sub(rf'\b{key}="([^"]*)"', lambda match: f'{key}="{float(match[1]) + by * cell}"', text[start : found.end()], count=1)
             damaged = text[:start] + element + text[found.end() :]
         else:
             damaged = re.sub(pattern, replacement, text, count=1)
-        if not next(faults_of(damaged.encode(), calls, heading), None):
+        if not next(faults_of(damaged.encode(), reading), None):
             fault("damage", f"{what} is not found out")
 
 
-OK = ("ok st=normal off=0 held=0 ended=1 c=U@9,BF3B2C3B,v=0,fe=0 ssf=0 tsf=1 ais=1 rdi=1 d=0100 cause=0000000 settled=0 total=3 "
+OK = ("ok st=normal off=0 held=0 ended=1 c=U@9,BF3B2C3B,v=0,fe=0 ssf=0 tsf=1 ais=1 rdi=1 d=dTIM cause=- settled=0 total=3 "
       "hb=A718826F db=A718826F\n")
 
 
@@ -539,45 +860,93 @@ def check_bad_input(bench, folder):
     good, nowhere = os.path.join(ROOT, "examples", "steps.bench"), os.path.join(folder, "nowhere")
     refused = os.path.join(ROOT, "examples", "settling", "refused_violations.bench")
     cut = os.path.join(ROOT, "examples", "settling", "cut_unit.bench")
+    said_by_bench = os.path.join(folder, "printed")
 
-    def expect(what, command, given, status, words):
-        done = run([sys.executable, *command], given)
-        said = done.stderr.decode(errors="replace")
-        if done.returncode != status or words not in said or "Traceback" in said or done.stdout or os.path.exists(out):
-            fault("bad input", f"{what}: status {done.returncode}, not {status} with `{words}`: {said[-300:]}")
+    def expect(what, tool, given, arguments, status, words):
+        with open(said_by_bench, "wb") as file:
+            file.write(given)
+        ended, said, errors = in_process(tool, *arguments)
+        if ended != status or words not in errors or said or os.path.exists(out):
+            fault("bad input", f"{what}: status {ended}, not {status} with `{words}`: {errors[-300:]}")
 
     printed = play(bench, open(good, "rb").read(), good)
+    ok = OK.encode()
     for what, options, given, status, words in (
         ("nothing", [], b"", 1, "no unit in it"),
         ("other lines", [], b"parity 00\ncat ok 1\n", 1, "no unit in it"),
-        ("no line of the bench", [], OK.encode() + b"hello\n", 1, "printed line 2 is not understood: hello"),
-        ("a line cut short", [], OK.encode()[:60] + b"\n", 1, "printed line 1 is not understood"),
+        ("no line of the bench", [], ok + b"hello\n", 1, "printed line 2 is not understood: hello"),
+        ("a line cut short", [], ok[:60] + b"\n", 1, "printed line 1 is not understood"),
+        ("the language before this one", [], ok.replace(b"d=dTIM", b"d=0100"), 1, "printed line 1 is not understood"),
+        ("a defect that has no row", [], ok.replace(b"d=dTIM", b"d=dTIM,dDEG"), 1, "no picture has a place for that"),
+        ("defects in another order", [], ok.replace(b"d=dTIM", b"d=dRDI,dTIM"), 1, "no picture has a place for that"),
+        ("a field that has no row", [], ok.replace(b" d=", b" send=2 d="), 1, "no picture has a place for that"),
+        ("a container's field that has no row", [], ok.replace(b",fe=", b",p=01,fe="), 1, "no picture has a place for that"),
         ("bytes that are no text", [], b"\xff\x00\n", 1, "not understood"),
-        ("too many units", [], OK.encode() * 2001, 1, "at most 2000"),
-        ("a run of another script", ["--script", good], OK.encode(), 1, "not a run of this script"),
-        ("less than the script prints", ["--script", good], printed[:300].rpartition(b"\n")[0] + b"\n", 1, "not a run of this script"),
+        ("too many units", [], ok * 2001, 1, "at most 2000"),
+        ("a run of another script", ["--script", good], ok, 1, "not a run of this script"),
+        ("less than the script prints", ["--script", good], printed[:300].rpartition(b"\n")[0] + b"\n", 1, "ends too soon"),
         ("more than the script prints", ["--script", good], printed + b"parity 00\n", 1, "behind its end"),
         ("a script that is not there", ["--script", nowhere], printed, 1, "cannot be read"),
-        ("a file that is not there", [nowhere], b"", 1, "cannot be read"),
         ("an option that is not there", ["--colour"], printed, 2, "usage"),
     ):
-        expect(f"timeline, {what}", [TIMELINE, *options, "-o", out], given, status, words)
-    expect("timeline, no such folder", [TIMELINE, "-o", os.path.join(nowhere, "x")], printed, 1, "cannot be written")
+        expect(f"timeline, {what}", timeline, given, [*options, "-o", out, said_by_bench], status, words)
+    expect("timeline, a file that is not there", timeline, b"", ["-o", out, nowhere], 1, "cannot be read")
+    expect("timeline, no such folder", timeline, printed, ["-o", os.path.join(nowhere, "x"), said_by_bench], 1, "cannot be written")
     # the bench would have refused this line
     with open(script, "wb") as file:
         file.write(b"word 12\nsink\n")
-    expect("timeline, no command", [TIMELINE, "--script", script, "-o", out], OK.encode(), 1, "not a run of this script")
+    expect("timeline, no command", timeline, ok, ["--script", script, "-o", out, said_by_bench], 1, "not a run of this script")
     for what, path, program, status, words in (
         ("no unit", refused, bench, 1, "no unit in it"),
         ("no unit of 2358 bytes", cut, bench, 1, "2357 bytes, not 2358"),
         ("no bench", good, [nowhere], 1, "cannot be run"),
-        ("another program", good, ["cat"], 1, "feeds the sink 8 times"),
+        ("another program", good, ["cat"], 1, "does not play it"),
         ("a program that fails", good, ["false"], 1, "ended with 1"),
         ("a script that is not there", nowhere, bench, 1, "cannot be read"),
         ("no program", good, [], 2, "--bench needs a program"),
     ):
-        expect(f"pcap, {what}", [PCAP, path, "-o", out, "--bench", *program], b"", status, words)
-    expect("pcap, no such folder", [PCAP, good, "-o", os.path.join(nowhere, "x"), "--bench", *bench], b"", 1, "cannot be written")
+        expect(f"pcap, {what}", pcap, b"", [path, "-o", out, "--bench", *program], status, words)
+    expect("pcap, no such folder", pcap, b"", [good, "-o", os.path.join(nowhere, "x"), "--bench", *bench], 1, "cannot be written")
+
+
+def check_closed(bench):
+    """A reader that goes away, and an output or input that is closed: no traceback, and a status."""
+    path = os.path.join(ROOT, "examples", "settling", "early_adjustment.bench")  # its picture is more than a pipe holds
+    printed = play(bench, open(path, "rb").read(), path)
+    draw = [sys.executable, TIMELINE, "--script", path]
+    for what, shell, status, words in (
+        ("timeline, a reader that has gone", '"$@" | head -c 10; exit ${PIPESTATUS[0]}', 1, ""),
+        ("timeline, a closed output", 'exec "$@" >&-', 1, "cannot be written: standard output is closed"),
+        ("timeline, a closed input", 'exec "$@" <&-', 1, "cannot be read: standard input is closed"),
+    ):
+        done = run(["bash", "-c", shell, "bash", *draw], printed)
+        said = done.stderr.decode(errors="replace")
+        if done.returncode != status or words not in said or not words and said:
+            fault("closed", f"{what}: status {done.returncode}, not {status} with `{words}`: {said[-300:]}")
+    with tempfile.NamedTemporaryFile(suffix=".pcap") as file:
+        capture = [sys.executable, PCAP, path, "-o", file.name, "--bench", *bench]
+        for what, shell in (("pcap, a reader that has gone", '"$@" | true; exit ${PIPESTATUS[0]}'), ("pcap, a closed output", 'exec "$@" >&-')):
+            done = run(["bash", "-c", shell, "bash", *capture])
+            if done.returncode != 0 or done.stderr or os.path.getsize(file.name) < 8 * 2430:
+                fault("closed", f"{what}: status {done.returncode}: {done.stderr.decode(errors='replace')[-300:]}")
+
+
+def check_line_ends(bench, folder):
+    """Scripts with CR LF, with a byte order mark and without a last LF are drawn and captured as they are without."""
+    for name in ("examples/steps.bench", "lessons/02-03E5-is-a-name.bench", "lessons/04-traces-alike.bench"):
+        with open(os.path.join(ROOT, name), "rb") as file:
+            plain = file.read()
+        made = []
+        for data in (plain, b"\xef\xbb\xbf" + plain.replace(b"\n", b"\r\n"), plain.rstrip(b"\n")):
+            path, picture, capture, said = (os.path.join(folder, file) for file in ("ends.bench", "ends.svg", "ends.pcap", "printed"))
+            with open(path, "wb") as file:
+                file.write(data)
+            with open(said, "wb") as file:
+                file.write(play(bench, data, name))
+            done = in_process(timeline, "--script", path, "-o", picture, said), in_process(pcap, path, "-o", capture, "--bench", *bench)
+            made.append([open(file, "rb").read() if status[0] == 0 else status for file, status in zip((picture, capture), done)])
+        if made[0] != made[1] or made[0] != made[2] or made[0][0] == made[0][1]:
+            fault(name, "its lines end otherwise, and picture or capture is another")
 
 
 def check_kept(bench):
@@ -599,8 +968,16 @@ def check_kept(bench):
 
 def shown(bench, script):
     """The line's bytes at each `sink`, by a `show` put before it."""
-    printed = play(bench, b"".join((b"show\n" if line == b"sink" else b"") + line + b"\n" for line in script.split(b"\n")), "a script with `show`")
-    lines = printed.decode("ascii").split("\n")
+    longer = []
+    for line in script.split(b"\n"):
+        words, _ = read_line(line.decode("utf-8", errors="replace"))
+        if words == ["sink"]:
+            longer += [b"show", b"sink"]
+        elif words and words[0] == "run":
+            longer += [b"src -", b"show", b"sink"] * int(words[1])
+        else:
+            longer.append(line)
+    lines = play(bench, b"\n".join(longer), "a script with `show`").decode("ascii").split("\n")
     return [bytes.fromhex(before[5:]) for before, line in zip(lines, lines[1:]) if re.match(r"ok |refused ", line)]
 
 
@@ -622,12 +999,12 @@ def frames_of(data):
 def check_capture(name, path, bench, script, calls, folder):
     """The capture of a script cut back into units; its frames, and for each H1, H2, value and J1 that are to be found."""
     file = os.path.join(folder, "units.pcap")
-    done = run([sys.executable, PCAP, path, "-o", file, "--bench", *bench])
-    lines = shown(bench, script)
+    status, _, errors = in_process(pcap, path, "-o", file, "--bench", *bench)
+    lines, calls = shown(bench, script), [call for call in calls if call.length is not None]
     framed = [k for k, call in enumerate(calls) if call.length == 2358]
-    if done.returncode != 0:
-        if framed:
-            fault(name, f"pcap.py: status {done.returncode}: {done.stderr.decode(errors='replace')[-500:]}")
+    if status != 0:
+        if framed or "no unit" not in errors:
+            fault(name, f"pcap.py: status {status}: {errors[-500:]}")
         return b"", []
     with open(file, "rb") as capture:
         data = capture.read()
@@ -641,8 +1018,8 @@ def check_capture(name, path, bench, script, calls, folder):
         fault(name, f"pcap.py: {len(frames)} frames with the times {[time for time, _ in frames][:5]}.., for {len(framed)} units")
         return b"", []
     skipped = [len(lines[k]) for k in range(len(calls)) if k not in framed]
-    if [int(count) for count in re.findall(r": (\d+) bytes, not 2358", done.stderr.decode())] != skipped:
-        fault(name, f"pcap.py left out lines of {skipped} bytes and said: {done.stderr.decode(errors='replace')}")
+    if [int(count) for count in re.findall(r": (\d+) bytes, not 2358", errors)] != skipped:
+        fault(name, f"pcap.py left out lines of {skipped} bytes and said: {errors}")
     wanted, end_before = [], bytes(783)
     for place, k in enumerate(framed):
         rows = [frames[place][1][270 * r : 270 * r + 270] for r in range(9)]
@@ -693,30 +1070,33 @@ def main():
         sys.exit("usage: pictures.py PROGRAM [ARGS..]")
     bench = [os.path.abspath(sys.argv[1]) if os.path.exists(sys.argv[1]) else sys.argv[1], *sys.argv[2:]]
     pictures = units = refused = 0
-    captures, wanted = [], []
+    captures, wanted, damaged = [], [], set()
     with tempfile.TemporaryDirectory(prefix="pictures-") as folder:
         for name, path in scripts(folder):
             with open(path, "rb") as file:
                 data = file.read()
             printed = play(bench, data, name)
-            script = data.decode("utf-8", errors="replace").split("\n")
-            calls = calls_of(script, printed.decode("ascii").splitlines())
-            check_picture(name, path, printed, script, calls, folder)
-            pictures += 3 if calls else 0
-            units += sum(1 for call in calls if call.unit)
-            refused += sum(1 for call in calls if not call.unit)
-            frames, fields = check_capture(name, path, bench, data, calls, folder)
+            count, reading = check_picture(name, path, data, printed, folder)
+            pictures += count
+            units += sum(1 for call in reading.calls if call.unit)
+            refused += reading.refusals
+            frames, fields = check_capture(name, path, bench, data, reading.calls, folder)
             captures.append(frames)
             wanted += fields
-            if name == "examples/steps.bench":
-                drawn = run([sys.executable, TIMELINE, "--script", path], printed).stdout
-                check_damage(drawn, calls, heading_of(script))
+            if name in DAMAGE:
+                damaged.add(name)
+                drawn = timeline.picture_of(printed.decode("ascii").splitlines(), tools_script.read(data))
+                check_damage(drawn, reading, DAMAGE[name])
+        if damaged != set(DAMAGE):
+            fault("damage", f"there is no {set(DAMAGE) - damaged}")
         j1 = check_tshark(pcap.pcap([]), captures, wanted, folder)
         check_bad_input(bench, folder)
+        check_closed(bench)
+        check_line_ends(bench, folder)
         check_kept(bench)
     failed = sum(len(texts) for texts in failures.values())
-    print(f"pictures.py: {pictures} pictures of {units} units and {refused} refused calls; tshark read {len(wanted)} frames, {j1} J1; "
-          f"{len(DAMAGE)} damages found out; {failed} failures" if not failed else f"pictures.py: {failed} failures")
+    print(f"pictures.py: {pictures} pictures of {units} units and {refused} refusals; tshark read {len(wanted)} frames, {j1} J1; "
+          f"{sum(map(len, DAMAGE.values()))} damages found out; {failed} failures" if not failed else f"pictures.py: {failed} failures")
     sys.exit(1 if failures else 0)
 
 

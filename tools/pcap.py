@@ -4,8 +4,8 @@
     tools/pcap.py SCRIPT -o FILE --bench PROGRAM [ARGS..]
 
 PROGRAM plays a bench script from its standard input (docs/BENCH.md). The script is played with
-a `show` before each `sink`, so that what is framed is the line as the sink was fed it: damaged,
-overwritten or repeated units too, and none that the sink never got.
+a `show` before each `sink`, those of `run` too, so that what is framed is the line as the sink
+was fed it: damaged, overwritten or repeated units too, and none that the sink never got.
 
 A frame is 9 rows of 270 bytes: nine of section overhead, then 261. A unit begins with row 4, of
 which its first nine bytes are the first nine, and ends with row 3 of the next frame; rows 1 to 3
@@ -19,10 +19,13 @@ fed has the time (n - 1) x 125 microseconds, so that one that is left out leaves
 """
 
 import argparse
-import re
+import os
 import struct
 import subprocess
 import sys
+
+sys.dont_write_bytecode = True  # nothing is left beside the tools
+import script  # noqa: E402
 
 LIMIT = 120  # seconds for the run
 UNIT, HEADER, ROWS, PAYLOAD = 2358, 9, 9, 261
@@ -68,38 +71,38 @@ def stop(text):
     sys.exit(f"pcap.py: {text}")
 
 
-def with_shows(script):
-    """The script with a `show` before each `sink`, and the number in the script of each line that is one."""
-    lines, sinks = [], []
-    for number, line in enumerate(script.split(b"\n"), 1):
-        if line == b"sink":
-            lines.append(b"show")
-            sinks.append(number)
-        lines.append(line)
-    return b"\n".join(lines), sinks
+def with_shows(lines):
+    """The script with a `show` before each `sink`, and the number in the script of each line that feeds the sink, as often as it does."""
+    longer, sinks = [], []
+    for line in lines:
+        if line.name == "run":
+            longer += [b"src -", b"show", b"sink"] * line.given["times"]
+            sinks += [line.number] * line.given["times"]
+        elif line.name == "sink":
+            longer += [b"show", line.text]
+            sinks.append(line.number)
+        elif line.name:
+            longer.append(line.text)
+    return b"\n".join(longer) + b"\n", sinks
 
 
-def play(command, script):
+def play(command, played):
     try:
-        done = subprocess.run(command, input=script, stdout=subprocess.PIPE, stderr=subprocess.PIPE, timeout=LIMIT, check=False)
+        done = subprocess.run(command, input=played, stdout=subprocess.PIPE, stderr=subprocess.PIPE, timeout=LIMIT, check=False)
     except (OSError, ValueError, subprocess.TimeoutExpired) as error:
         stop(f"{command[0]} cannot be run: {error}")
     if done.returncode != 0:
         stop(f"{command[0]} ended with {done.returncode}: {done.stderr.decode(errors='replace')[-2000:]}")
-    return done.stdout.decode("ascii", errors="replace").split("\n")
+    return script.printed_lines(done.stdout)
 
 
-def fed(printed):
-    """The line as it was at each `sink`. What `show` printed stands right before what `sink` prints."""
+def fed(played, printed):
+    """The line's bytes at each `sink`: what `show` printed right before."""
     shown = None
-    for text in printed:
-        if text.startswith("ok st=") or re.fullmatch(r"refused \d+", text):
-            if shown is None:
-                stop(f"the bench printed no line's bytes before this: {text[:80]}")
-            yield shown
-        shown = None
-        if text == "line" or re.fullmatch(r"line ([0-9A-F]{2})*", text):
-            shown = bytes.fromhex(text[5:])
+    for step in script.pair(script.read(played), printed):
+        if step.name == "sink":
+            yield shown["bytes"]
+        shown = step.answer
 
 
 def arguments():
@@ -121,23 +124,22 @@ def main():
     asked = arguments()
     try:
         with open(asked.script, "rb") as file:
-            script = file.read()
+            lines = script.read(file.read())
     except OSError as error:
         stop(f"the script cannot be read: {error}")
-    longer, sinks = with_shows(script)
+    longer, sinks = with_shows(lines)
     if not sinks:
-        stop(f"{asked.script}: no unit in it: there is no line `sink`")
-    printed = play(asked.bench, longer)
-    lines = list(fed(printed))
-    if len(lines) != len(sinks):
-        stop(f"the script feeds the sink {len(sinks)} times, and the bench printed {len(lines)} answers; the first line is: {printed[0][:80]}")
+        stop(f"{asked.script}: no unit in it: no line feeds the sink")
     units, places = [], []
-    for place, (number, line) in enumerate(zip(sinks, lines)):
-        if len(line) == UNIT:
-            units.append(line)
-            places.append(place)
-        else:
-            print(f"pcap.py: {asked.script}:{number}: {len(line)} bytes, not {UNIT}: no frame", file=sys.stderr)
+    try:
+        for place, (number, line) in enumerate(zip(sinks, list(fed(longer, play(asked.bench, longer))))):
+            if len(line) == UNIT:
+                units.append(line)
+                places.append(place)
+            else:
+                print(f"pcap.py: {asked.script}:{number}: {len(line)} bytes, not {UNIT}: no frame", file=sys.stderr)
+    except script.Fault as fault:
+        stop(f"{asked.bench[0]} does not play it (lines are counted with a `show` before each `sink`): {fault}")
     if not units:
         stop(f"{asked.script}: no unit of {UNIT} bytes in it: nothing is written")
     content = pcap(stm1(units), places)
@@ -146,7 +148,10 @@ def main():
             file.write(content)
     except OSError as error:
         stop(f"cannot be written: {error}")
-    print(f"pcap.py: {asked.file}: {len(units)} frames")
+    try:
+        print(f"pcap.py: {asked.file}: {len(units)} frames", flush=True)
+    except BrokenPipeError:  # the file is written, and nobody wants to hear of it
+        os.dup2(os.open(os.devnull, os.O_WRONLY), sys.stdout.fileno())
 
 
 if __name__ == "__main__":
