@@ -9,7 +9,8 @@ SCRIPTS makes a script from a seed and a number of units; the scripts under exam
 lessons are played too, and a few that are long. The first line that differs is printed with the script
 up to the line that caused it. Every case that the second program names must be met by
 some random script. Of both programs each typed line must be answered before the next is
-typed, and output that cannot be written must be said on standard error.
+typed, and output that cannot be written must be said on standard error. The proved bench
+must do with a stack of 1 MiB, and print what docs/BENCH.md shows.
 
 With --try there is no program yet: `rt try` compiles the bench's source in three ways
 (without optimisation, with it, and with the compiler's assumptions checked), and each
@@ -18,6 +19,8 @@ are played as one, and one by one where they differ. Nothing is typed at it.
 """
 
 import os
+import re
+import resource
 import select
 import shutil
 import subprocess
@@ -35,14 +38,14 @@ ROOT = os.path.dirname(os.path.dirname(os.path.abspath(__file__)))
 BEGIN = b'fresh\ntx 12 "03E5" 0 0\nrx 12 "03E5" 0\n'
 
 
-def run(command, script, what, both=False):
-    """Standard output's bytes, and standard error's where both are asked for."""
+def run(command, script, what, both=False, prepare=None):
+    """Standard output's bytes, and standard error's where both are asked for. What is to be prepared is done in the new process."""
     try:
         with tempfile.TemporaryFile() as stdin:
             stdin.write(script)
             stdin.seek(0)
             done = subprocess.run(command, stdin=stdin, stdout=subprocess.PIPE, stderr=subprocess.PIPE,
-                                  timeout=LIMIT, check=False)
+                                  timeout=LIMIT, check=False, preexec_fn=prepare)
     except subprocess.TimeoutExpired:
         sys.exit(f"bench.py: {what}: {command[0]} did not end within {LIMIT} seconds")
     except OSError as error:
@@ -225,6 +228,27 @@ def unwritten(command):
             sys.exit(f"bench.py: /dev/full: {name} says nothing of output that cannot be written")
 
 
+def small_stack(bench, second):
+    """Fails unless the proved bench needs no more stack than docs/BENCH.md says, 1 MiB at the most, whatever a line has in it."""
+    script = b"run 3\nlist 5a4d0007123033453520202020202020202020200f\nparity " + b"00" * 49000 + b"\n"
+    limit = (2**20, 2**20)
+    said = run([bench], script, "a small stack", prepare=lambda: resource.setrlimit(resource.RLIMIT_STACK, limit))
+    compare("a small stack", second, script, said, run([second, "bench"], script, "a small stack"))
+
+
+def page(bench):
+    """Fails unless the line that docs/BENCH.md shows is the last that its example prints."""
+    with open(os.path.join(ROOT, "docs", "BENCH.md"), encoding="utf-8") as file:
+        text_of_page = file.read()
+    shown = re.findall(r"^    (ok st=.*)$", text_of_page, re.M)
+    example = re.findall(r"^    printf '(.*)' \| target/bin/bench$", text_of_page, re.M)
+    if len(shown) != 1 or len(example) != 1:
+        sys.exit("bench.py: docs/BENCH.md shows no line of the sink, or no example, or more than one")
+    last = lines_of(run([bench], example[0].replace("\\n", "\n").encode(), "docs/BENCH.md"))[-1].decode()
+    if last != shown[0]:
+        sys.exit(f"bench.py: docs/BENCH.md shows\n{shown[0]}\nand its example prints last\n{last}")
+
+
 def examples():
     """The scripts under examples and lessons, by name."""
     found = []
@@ -291,6 +315,8 @@ def main():
         else:
             compare(name, second, script, run([bench], script, name), expected)
     if not trying:
+        small_stack(bench, second)
+        page(bench)
         for name, script in long_scripts():
             compare(name, second, script, run([bench], script, name), run([second, "bench"], script, name))
     for command in [[second, "bench"]] + ([] if trying else [[bench]]):

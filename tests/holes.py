@@ -156,8 +156,10 @@ TRIALS = [
     Trial("docs/RULES.md", None, "| a | none | [`sink::sink`] | none |\n", [RULES], ["docs/RULES.md:", "`sink::sink` is written in brackets"]),
     Trial("docs/RULES.md", None, "| a | none | `card::card_parity` | none |\n", [RULES], ["docs/RULES-INDEX.md:", "names are missing", "`card::card_parity`"]),
     Trial("docs/RULES-INDEX.md", None, "\n[`case peek`](../README.md)\n", [RULES], ["docs/RULES-INDEX.md:", "`case peek` stands in no table"]),
+    # a library that rests on a program's part
+    Trial("crates.txt", "\ncard: parity", "\ncard: bench_say parity", [RULES, PROMISES], ["crates.txt: card rests on bench_say, a part of the program bench"]),
     # what must be believed: another table; a statement that comes to an Inner file, and such a file to which none comes
-    Trial("README.md", "| Statement |", "| Statements |", [BELIEVE], ["README.md:", "not that of the repository", "from here on: Statement"]),
+    Trial("docs/READING.md", "| Statement |", "| Statements |", [BELIEVE], ["docs/READING.md:", "not that of the repository", "from here on: Statement"]),
     Trial("crates/parity/specs/InnerPeek.antt", None, PEEK, [BELIEVE], ["crates/parity/specs/InnerPeek.antt:", "is reached from card::card_parity"]),
     Trial("crates/parity/specs/Parity.antt", "\nparityOf [] = 0\n", "\nparityOf [] = peek\nuse Rattle.parity.specs.InnerPeek.{peek}\n", [BELIEVE],
           ["parity/InnerPeek.peek", "by parity/Parity.parityOf"]),

@@ -120,6 +120,25 @@ def by_majority(host):
     expect(host, table, "words of values and of adjustments")
 
 
+def settings(host):
+    """Order forms: every label, every character at the first and the last place, every number of characters up to 20."""
+    trace = b"03E5".ljust(15)
+
+    def line(label, characters):
+        return f"settings {label:02X}{characters.hex().upper()}"
+
+    pairs = [(line(label, trace), f"settings {4 if label in (0x00, 0xFF) else 0}") for label in range(256)]
+    for character in range(256):
+        wrong = 0 if chr(character).isascii() and chr(character).isprintable() else 5
+        pairs.append((line(0x12, bytes([character]) + trace[1:]), f"settings {wrong}"))
+        pairs.append((line(0x12, trace[:-1] + bytes([character])), f"settings {wrong}"))
+        pairs.append((line(0xFF, trace[:-1] + bytes([character])), "settings 4"))
+    for n in range(21):
+        pairs.append((line(0x12, b"0" * n), f"settings {0 if n == 15 else 5}"))
+        pairs.append((line(0x00, b"0" * n), "settings 4"))
+    expect(host, pairs, "labels and traces checked before any call")
+
+
 def odd(host):
     """Odd lengths and lines that are not understood."""
     expect(
@@ -140,6 +159,7 @@ def odd(host):
             ("parity " + "00" * 4096, "parity 00"),
             ("parity " + "00" * 4097, "? 14"),
             ("read 6800", "read 6144"),
+            ("settings", "? 16"),
         ],
         "odd lengths and odd lines",
     )
@@ -152,6 +172,7 @@ def main():
     check_vectors(host)
     by_crcmod(host)
     by_majority(host)
+    settings(host)
     odd(host)
     if failed:
         sys.exit(f"vectors: {len(failed)} differ")

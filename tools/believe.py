@@ -1,7 +1,7 @@
 #!/usr/bin/env python3
-"""Which definitions one must believe for what is promised and proved: a table, kept in README.md.
+"""Which definitions one must believe for what is promised and proved: a table, kept in docs/READING.md.
 
-Usage: believe.py            compares the table in README.md with the repository; what is wrong is printed, and the status is then 1.
+Usage: believe.py            compares the table in docs/READING.md with the repository; what is wrong is printed, and the status is then 1.
        believe.py --write    writes it anew, between its two marks.
        believe.py --names    prints of each statement the files, and in each the definitions that it does not come to; then those to which none comes.
 
@@ -26,7 +26,7 @@ import names  # noqa: E402
 import promises  # noqa: E402
 import rules  # noqa: E402
 
-README = names.ROOT / "README.md"
+PAGE = names.ROOT / "docs" / "READING.md"
 MARKS = ("<!-- believe -->", "<!-- /believe -->")
 INNER = "Inner"
 HEAD = ["Statement", "Lines reached", "Whole files", "Definitions, beside those above", "The code's types, beside those above"]
@@ -125,7 +125,7 @@ def reached_lines(file, own):
 # ---- the table
 
 def told(files):
-    return ", ".join(f"[{file.split('/')[1]}/{pathlib.PurePath(file).stem}]({file})" for file in files)
+    return ", ".join(f"[{file.split('/')[1]}/{pathlib.PurePath(file).stem}](../{file})" for file in files)
 
 
 def told_types(types):
@@ -133,7 +133,7 @@ def told_types(types):
     found = collections.defaultdict(list)
     for name in sorted(types, key=lambda name: (crates().index(name.split("::")[0]), names.types()[name].place.line)):
         found[name.split("::")[0]].append(name)
-    return "; ".join(f"[{crate}]({names.types()[own[0]].place.file}) " + ", ".join(f"`{name.split('::')[1]}`" for name in own) for crate, own in found.items())
+    return "; ".join(f"[{crate}](../{names.types()[own[0]].place.file}) " + ", ".join(f"`{name.split('::')[1]}`" for name in own) for crate, own in found.items())
 
 
 def table(all_statements):
@@ -182,7 +182,7 @@ def inner_faults(all_statements):
 
 
 def split(text):
-    """README.md before the block, the block, and what follows; nothing where the marks are not there once, in order."""
+    """The page before the block, the block, and what follows; nothing where the marks are not there once, in order."""
     before, begin, rest = text.partition(MARKS[0])
     inside, end, after = rest.partition(MARKS[1])
     if not end or any(mark in part for mark in MARKS for part in (before, inside, after)):
@@ -191,7 +191,7 @@ def split(text):
 
 
 def first_other(found, want):
-    """The first line at which README.md is another, and how that row should begin."""
+    """The first line at which the page is another, and how that row should begin."""
     have, wanted = found[1].split("\n"), want.split("\n")
     at = next((at for at, pair in enumerate(zip(have, wanted)) if pair[0] != pair[1]), min(len(have), len(wanted)))
     return found[0].count("\n") + at + 1, wanted[at].split(" | ")[0].strip("| ") if at < len(wanted) else MARKS[1]
@@ -208,17 +208,17 @@ def main():
             return 0
         faults = list(inner_faults(all_statements))
         want = block(all_statements)
-        found = split(names.text_of(README))
+        found = split(names.text_of(PAGE))
     except (OSError, UnicodeDecodeError, names.Unreadable) as fault:
         print(f"believe.py: {fault}", file=sys.stderr)
         return 2
     if not found:
-        faults.append(f"README.md: {MARKS[0]} and {MARKS[1]} do not stand in it once, in this order")
+        faults.append(f"{names.shown(PAGE)}: {MARKS[0]} and {MARKS[1]} do not stand in it once, in this order")
     elif sys.argv[1:] == ["--write"]:
-        README.write_text(found[0] + want + found[2], encoding="utf-8")
+        PAGE.write_text(found[0] + want + found[2], encoding="utf-8")
     elif found[1] != want:
         line, row = first_other(found, want)
-        faults.append(f"README.md:{line}: what must be believed is not that of the repository (tools/believe.py --write writes it), from here on: {row}")
+        faults.append(f"{names.shown(PAGE)}:{line}: what must be believed is not that of the repository (tools/believe.py --write writes it), from here on: {row}")
     for fault in faults:
         print(fault)
     files = {file_of(name) for stated in all_statements for name in stated.definitions}

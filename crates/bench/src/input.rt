@@ -84,24 +84,36 @@ fn end_of_input(p: Pending) -> Pending {
     }
 }
 
-// One read, to the buffer's bytes from a place on; how many came. 0 at the end of the input, and where it cannot be read, which is said.
-fn read(part: &mut [u8]) -> usize {
+// How many bytes a read gave, and whether it failed.
+struct Got {
+    bytes: usize,
+    failed: bool,
+}
+
+// One read. A failure is said.
+fn read(part: &mut [u8]) -> Got {
     let got = libc::read(STDIN_FILENO, part);
     if got < 0 {
         bench_say::complain(b"bench: standard input cannot be read\n");
     }
-    io::count(got, part)
+    Got {
+        bytes: io::count(got, part),
+        failed: got < 0,
+    }
 }
 
-// One read more, behind what is under way.
+// One read more, behind what is under way. Where it fails nothing more is played.
 fn more(p: Pending, input: &mut [u8]) -> Pending {
     let q = at_front(p, input);
     let at = least(q.to, input.len());
-    let n = read(&mut input[at..]);
-    if n == 0 {
+    let got = read(&mut input[at..]);
+    if got.failed {
+        return end_of_input(nothing());
+    }
+    if got.bytes == 0 {
         return end_of_input(q);
     }
-    let to = least(n, input.len() - at) + at;
+    let to = least(got.bytes, input.len() - at) + at;
     Pending {
         from: 0,
         to,
