@@ -715,11 +715,11 @@ class Drawing:
                 yield x, width, level, [brief([text]) for text in texts] if side_by_side else [brief(texts)]
 
     def level_lines(self, texts, room):
-        """Size and lines of texts that are written level, and "" between two texts; none where a word has no room."""
-        for size in (VALUE, SMALL):
-            tried = texts if self.roomy else [brief(texts)]
-            tried = [text if width_of(text, size) <= room or not self.roomy else HYPHENED.get(text, text) for text in tried]
-            if all(width_of(word, size) <= room for text in tried for word in (text.split(" ") if self.roomy else [text])):
+        """Size and lines of texts that are written level, and "" between two texts; none where a word has no room. In a narrow column none is broken."""
+        whole = texts if self.roomy else [brief(texts)]
+        hyphened = [HYPHENED.get(text, text) for text in texts] if self.roomy else []
+        for size, tried in ((VALUE, whole), (SMALL, whole), (VALUE, hyphened), (SMALL, hyphened)):
+            if tried and all(width_of(word, size) <= room for text in tried for word in (text.split(" ") if self.roomy else [text])):
                 return size, [line for text in tried for line in ["", *wrapped(text, size, room)]][1:]
         return None
 
