@@ -1,11 +1,9 @@
 // The bench: reads a script on standard input and plays each line on a container source, a unit source, a line and a sink as soon as it has come. docs/BENCH.md has the language.
 // Its work is in the libraries; here a line of the script is understood and one of them called.
-mod input;
-
+use bench_input::Pending;
 use bench_script::least;
 use bench_sending::Sent;
 use bench_sending::Sources;
-use input::Pending;
 use settings::Settings;
 use shape::Adjustment;
 
@@ -56,245 +54,42 @@ const RX: u8 = 5;
 
 const SRC: u8 = 6;
 
-const WORD: u8 = 7;
+const SINK: u8 = 7;
 
-const XOR: u8 = 8;
+const PAYLOAD: u8 = 8;
 
-const ONES: u8 = 9;
+const RUN: u8 = 9;
 
-const LEN: u8 = 10;
-
-const SHOW: u8 = 11;
-
-const SINK: u8 = 12;
-
-const PAYLOAD: u8 = 13;
-
-const RUN: u8 = 14;
-
-const CAT: u8 = 15;
-
-const LOOKUP: u8 = 16;
-
-const LIST: u8 = 17;
-
-const PARITY: u8 = 18;
-
-const CHECK: u8 = 19;
-
-const READ: u8 = 20;
-
-// The command of a line of n words that takes no more than its name.
-fn alone(s: &[u8]) -> u8 {
-    if bench_script::is(s, 0, b"fresh") {
+// The command of a line of n words that is neither a question nor about the line.
+fn command(s: &[u8], n: usize) -> u8 {
+    if (n == 1) & bench_script::is(s, 0, b"fresh") {
         return FRESH;
     }
-    if bench_script::is(s, 0, b"ones") {
-        return ONES;
-    }
-    if bench_script::is(s, 0, b"show") {
-        return SHOW;
-    }
-    if bench_script::is(s, 0, b"sink") {
-        return SINK;
-    }
-    0
-}
-
-// One that takes bytes in hex, or none.
-fn with_bytes(s: &[u8]) -> u8 {
-    if bench_script::is(s, 0, b"cat") {
-        return CAT;
-    }
-    if bench_script::is(s, 0, b"list") {
-        return LIST;
-    }
-    if bench_script::is(s, 0, b"parity") {
-        return PARITY;
-    }
-    if bench_script::is(s, 0, b"check") {
-        return CHECK;
-    }
-    if bench_script::is(s, 0, b"read") {
-        return READ;
-    }
-    0
-}
-
-// One of two words.
-fn of_two(s: &[u8]) -> u8 {
-    if bench_script::is(s, 0, b"src") {
-        return SRC;
-    }
-    if bench_script::is(s, 0, b"word") {
-        return WORD;
-    }
-    if bench_script::is(s, 0, b"len") {
-        return LEN;
-    }
-    if bench_script::is(s, 0, b"payload") {
-        return PAYLOAD;
-    }
-    if bench_script::is(s, 0, b"run") {
-        return RUN;
-    }
-    if bench_script::is(s, 0, b"lookup") {
-        return LOOKUP;
-    }
-    with_bytes(s)
-}
-
-// One of three.
-fn of_three(s: &[u8]) -> u8 {
-    if bench_script::is(s, 0, b"fill") {
+    if (n == 3) & bench_script::is(s, 0, b"fill") {
         return FILL;
     }
-    if bench_script::is(s, 0, b"lens") {
+    if (n == 3) & bench_script::is(s, 0, b"lens") {
         return LENS;
-    }
-    if bench_script::is(s, 0, b"xor") {
-        return XOR;
-    }
-    if bench_script::is(s, 0, b"lookup") {
-        return LOOKUP;
-    }
-    0
-}
-
-fn either(a: u8, b: u8) -> u8 {
-    if a == 0 { b } else { a }
-}
-
-// The command of a line.
-fn command(s: &[u8]) -> u8 {
-    let n = bench_script::words(s);
-    if n == 1 {
-        return either(alone(s), with_bytes(s));
-    }
-    if n == 2 {
-        return of_two(s);
-    }
-    if n == 3 {
-        return of_three(s);
-    }
-    if (n == 4) & bench_script::is(s, 0, b"rx") {
-        return RX;
     }
     if (n == 5) & bench_script::is(s, 0, b"tx") {
         return TX;
     }
+    if (n == 4) & bench_script::is(s, 0, b"rx") {
+        return RX;
+    }
+    if (n == 2) & bench_script::is(s, 0, b"src") {
+        return SRC;
+    }
+    if (n == 1) & bench_script::is(s, 0, b"sink") {
+        return SINK;
+    }
+    if (n == 2) & bench_script::is(s, 0, b"payload") {
+        return PAYLOAD;
+    }
+    if (n == 2) & bench_script::is(s, 0, b"run") {
+        return RUN;
+    }
     0
-}
-
-// ---- commands that ask
-
-// Those on bytes, `work` being where they go.
-fn ask(code: u8, s: &[u8], number: u64, work: &mut [u8]) {
-    let n = bench_script::bytes(s, 1, work);
-    let e = least(n.value as usize, work.len());
-    if !n.good {
-        bench_say::unknown(number);
-        return;
-    }
-    if code == CAT {
-        bench_asking::check(&work[..e]);
-        return;
-    }
-    if code == LIST {
-        bench_asking::list(&work[..e]);
-        return;
-    }
-    if code == PARITY {
-        bench_asking::parity(&work[..e]);
-        return;
-    }
-    if code == CHECK {
-        bench_asking::trace_check(&work[..e]);
-        return;
-    }
-    bench_asking::read(&work[..e]);
-}
-
-fn lookup(s: &[u8], number: u64, work: &mut [u8]) {
-    let circuit = bench_script::decimal(s, 1, 999999999);
-    let n = bench_script::bytes(s, 2, work);
-    let e = least(n.value as usize, work.len());
-    if !(circuit.good & n.good) {
-        bench_say::unknown(number);
-        return;
-    }
-    bench_asking::lookup(circuit.value, &work[..e]);
-}
-
-// ---- commands on the line
-
-fn overwrite(s: &[u8], number: u64, unit: &mut [u8]) {
-    let w = bench_script::hex(s, 1, 2);
-    if !w.good {
-        bench_say::unknown(number);
-        return;
-    }
-    if unit.len() < 4 {
-        bench_say::unknown(number);
-        return;
-    }
-    unit[0] = (w.value / 256 % 256) as u8;
-    unit[3] = (w.value % 256) as u8;
-}
-
-fn damage(s: &[u8], number: u64, unit: &mut [u8]) {
-    let i = bench_script::decimal(s, 1, 4095);
-    let b = bench_script::hex(s, 2, 1);
-    let k = i.value as usize;
-    if !(i.good & b.good) {
-        bench_say::unknown(number);
-        return;
-    }
-    if unit.len() <= k {
-        bench_say::unknown(number);
-        return;
-    }
-    unit[k] = unit[k] ^ (b.value % 256) as u8;
-}
-
-fn show(unit: &[u8]) {
-    bench_say::text(b"line ");
-    bench_say::all(unit);
-    bench_say::text(b"\n");
-}
-
-// `len`: how long the line is then.
-fn measure(s: &[u8], number: u64, length: usize, line: &mut [u8]) -> usize {
-    let n = bench_script::decimal(s, 1, 4096);
-    if !n.good {
-        bench_say::unknown(number);
-        return length;
-    }
-    let k = n.value as usize;
-    bench_sending::clear(line, length, k);
-    k
-}
-
-// A command on the line; how long it is then.
-fn on_line(code: u8, s: &[u8], number: u64, length: usize, line: &mut [u8]) -> usize {
-    let n = least(length, line.len());
-    if code == WORD {
-        overwrite(s, number, &mut line[..n]);
-        return length;
-    }
-    if code == XOR {
-        damage(s, number, &mut line[..n]);
-        return length;
-    }
-    if code == ONES {
-        copier::fill(&mut line[..n], 0xff);
-        return length;
-    }
-    if code == SHOW {
-        show(&line[..n]);
-        return length;
-    }
-    measure(s, number, length, line)
 }
 
 // ---- settings
@@ -506,20 +301,6 @@ fn fresh(b: Bench) -> Bench {
 
 // ---- one line of the script, by groups of commands
 
-fn answer_in(code: u8, s: &[u8], number: u64, work: &mut [u8; 50000]) {
-    if code == LOOKUP {
-        lookup(s, number, work);
-        return;
-    }
-    ask(code, s, number, work);
-}
-
-// In a buffer for all the bytes that the longest line can give.
-fn answer(code: u8, s: &[u8], number: u64) {
-    let mut work = [0u8; 50000];
-    answer_in(code, s, number, &mut work);
-}
-
 fn hear(
     b: Bench,
     code: u8,
@@ -535,14 +316,6 @@ fn hear(
     }
     payload(s, number, last);
     b
-}
-
-fn rewrite(b: Bench, code: u8, s: &[u8], number: u64, line: &mut [u8]) -> Bench {
-    let mut t = b;
-    let lengths = b.lengths;
-    let length = on_line(code, s, number, lengths.line, line);
-    t.lengths.line = length;
-    t
 }
 
 fn set(b: Bench, code: u8, s: &[u8], number: u64) -> Bench {
@@ -586,9 +359,6 @@ fn play_command(
     if SINK <= code {
         return hear(b, code, s, number, line, held, done, last);
     }
-    if WORD <= code {
-        return rewrite(b, code, s, number, line);
-    }
     if SRC <= code {
         return src(b, s, number, queue, line);
     }
@@ -602,23 +372,7 @@ fn play_command(
     fresh(b)
 }
 
-// The command of a line that changes something; 0 where there is none, since the line has no word, is not understood, or asks and is answered here.
-fn changing(s: &[u8], number: u64) -> u8 {
-    if bench_script::words(s) == 0 {
-        return 0;
-    }
-    let code = command(s);
-    if code == 0 {
-        bench_say::unknown(number);
-        return 0;
-    }
-    if CAT <= code {
-        answer(code, s, number);
-        return 0;
-    }
-    code
-}
-
+// One line, without its comment: a question is answered, the line changed, or the machines are.
 fn play_line(
     b: Bench,
     s: &[u8],
@@ -629,8 +383,24 @@ fn play_line(
     queue: &mut [u8; 4698],
     last: &mut [u8; 2349],
 ) -> Bench {
-    let code = changing(s, number);
+    let n = bench_script::words(s);
+    if n == 0 {
+        return b;
+    }
+    if bench_asking::answered(s, n, number) {
+        return b;
+    }
+    let lengths = b.lengths;
+    let after = bench_line::change(s, n, number, lengths.line, line);
+    if after.is_own {
+        let length = after.length;
+        let mut t = b;
+        t.lengths.line = length;
+        return t;
+    }
+    let code = command(s, n);
     if code == 0 {
+        bench_say::unknown(number);
         return b;
     }
     play_command(b, code, s, number, line, held, done, queue, last)
@@ -687,9 +457,9 @@ fn play_next(
     let mut t = d;
     let before = d.pending;
     let b = d.bench;
-    let p = input::next_line(before, input);
-    t.pending = input::behind(p);
-    if input::is_over(p) {
+    let p = bench_input::next_line(before, input);
+    t.pending = bench_input::behind(p);
+    if bench_input::is_over(p) {
         t.over = true;
         return t;
     }
@@ -742,7 +512,7 @@ fn play(input: &mut [u8; 100001]) {
     };
     let start = Desk {
         bench: started(sent, settings),
-        pending: input::nothing(),
+        pending: bench_input::nothing(),
         over: false,
     };
     play_lines(

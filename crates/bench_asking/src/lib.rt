@@ -1,4 +1,5 @@
 // Commands that ask and change nothing: the catalogue's three, and the host's three functions.
+use bench_script::least;
 use catalogue::Checked;
 use catalogue::Found;
 use records::Refusal;
@@ -26,7 +27,7 @@ fn say_refusal(x: Refusal) {
 }
 
 // `cat`
-pub fn check(s: &[u8]) {
+fn check(s: &[u8]) {
     match catalogue::check(s) {
         Checked::Good(n) => {
             bench_say::text(b"cat ok ");
@@ -41,7 +42,7 @@ pub fn check(s: &[u8]) {
 }
 
 // `lookup`
-pub fn lookup(number: u32, s: &[u8]) {
+fn look_up(number: u32, s: &[u8]) {
     let l = catalogue::lookup(s, number);
     let found = l.found;
     let characters = l.trace;
@@ -63,29 +64,140 @@ pub fn lookup(number: u32, s: &[u8]) {
 }
 
 // `list`
-pub fn list(s: &[u8]) {
+fn list(s: &[u8]) {
     let mut out = [0u8; 15898];
     let n = listing::list(s, &mut out);
     bench_say::text(&out[..n]);
 }
 
 // `parity`
-pub fn parity(s: &[u8]) {
+fn parity(s: &[u8]) {
     bench_say::text(b"parity ");
     bench_say::hex(parity::parity(s));
     bench_say::text(b"\n");
 }
 
 // `check`
-pub fn trace_check(s: &[u8]) {
+fn trace_check(s: &[u8]) {
     bench_say::text(b"check ");
     bench_say::bit(trace_message::trace_check(s));
     bench_say::text(b"\n");
 }
 
 // `read`
-pub fn read(s: &[u8]) {
+fn read(s: &[u8]) {
     bench_say::text(b"read ");
     bench_say::decimal(word::reading(s) as u64);
     bench_say::text(b"\n");
+}
+
+// ---- a line of the script
+
+// The commands, each by a number; 0 is none.
+const CAT: u8 = 1;
+
+const LIST: u8 = 2;
+
+const PARITY: u8 = 3;
+
+const CHECK: u8 = 4;
+
+const READ: u8 = 5;
+
+const LOOKUP: u8 = 6;
+
+// Those that take bytes in hex, or none.
+fn with_bytes(s: &[u8]) -> u8 {
+    if bench_script::is(s, 0, b"cat") {
+        return CAT;
+    }
+    if bench_script::is(s, 0, b"list") {
+        return LIST;
+    }
+    if bench_script::is(s, 0, b"parity") {
+        return PARITY;
+    }
+    if bench_script::is(s, 0, b"check") {
+        return CHECK;
+    }
+    if bench_script::is(s, 0, b"read") {
+        return READ;
+    }
+    0
+}
+
+// The command of a line of n words.
+fn command(s: &[u8], n: usize) -> u8 {
+    if 3 < n {
+        return 0;
+    }
+    if (1 < n) & bench_script::is(s, 0, b"lookup") {
+        return LOOKUP;
+    }
+    if 2 < n {
+        return 0;
+    }
+    with_bytes(s)
+}
+
+// Those on bytes, `work` being where they go.
+fn ask(code: u8, s: &[u8], number: u64, work: &mut [u8]) {
+    let n = bench_script::bytes(s, 1, work);
+    let e = least(n.value as usize, work.len());
+    if !n.good {
+        bench_say::unknown(number);
+        return;
+    }
+    if code == CAT {
+        check(&work[..e]);
+        return;
+    }
+    if code == LIST {
+        list(&work[..e]);
+        return;
+    }
+    if code == PARITY {
+        parity(&work[..e]);
+        return;
+    }
+    if code == CHECK {
+        trace_check(&work[..e]);
+        return;
+    }
+    read(&work[..e]);
+}
+
+fn lookup(s: &[u8], number: u64, work: &mut [u8]) {
+    let circuit = bench_script::decimal(s, 1, 999999999);
+    let n = bench_script::bytes(s, 2, work);
+    let e = least(n.value as usize, work.len());
+    if !(circuit.good & n.good) {
+        bench_say::unknown(number);
+        return;
+    }
+    look_up(circuit.value, &work[..e]);
+}
+
+fn answer_in(code: u8, s: &[u8], number: u64, work: &mut [u8; 50000]) {
+    if code == LOOKUP {
+        lookup(s, number, work);
+        return;
+    }
+    ask(code, s, number, work);
+}
+
+// In a buffer for all the bytes that the longest line can give.
+fn answer(code: u8, s: &[u8], number: u64) {
+    let mut work = [0u8; 50000];
+    answer_in(code, s, number, &mut work);
+}
+
+// Whether a line of n words is a question. Then it is answered, or said not to be understood.
+pub fn answered(s: &[u8], n: usize, number: u64) -> bool {
+    let code = command(s, n);
+    if code == 0 {
+        return false;
+    }
+    answer(code, s, number);
+    true
 }

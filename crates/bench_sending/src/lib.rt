@@ -166,13 +166,6 @@ fn left_of(queued: u8, ended: u8) -> u8 {
     if ended < queued { queued - ended } else { 0 }
 }
 
-// The bytes of `line` from a place on, as far as another, become 00.
-pub fn clear(line: &mut [u8], from: usize, to: usize) {
-    let e = least(to, line.len());
-    let a = least(from, e);
-    copier::fill(&mut line[a..e], 0);
-}
-
 // H1 and H2.
 fn say_word(unit: &[u8]) {
     if 4 <= unit.len() {
@@ -245,7 +238,7 @@ pub fn send(
             length,
         };
     }
-    clear(line, length, 2358);
+    bench_line::clear(line, length, 2358);
     let n = least(2358, line.len());
     let sources = send_unit(full, a, queue, &mut line[..n]);
     Line { sources, length: n }

@@ -1,9 +1,9 @@
--- `bench::lookup` meets its contract: the bytes are a part of the buffer. Assumes what `libc` says of the C functions behind it.
+-- `bench_asking::lookup` meets its contract: the bytes are a part of the buffer. Assumes what `libc` says of the C functions behind it.
 use lib.ListN.{length-take}
 use native.Mathlib.Omega.{arith}
 use borrow.Author.Needs.{needs}
-use Rattle.bench.proofs.lookup.Statement.{statement}
-use Rattle.bench.proofs.lookup.Tie as tie
+use Rattle.bench_asking.proofs.lookup.Statement.{statement}
+use Rattle.bench_asking.proofs.lookup.Tie as tie
 
 decimal-requires : tie.Need-decimal-requires
 decimal-requires c κs = search needs
@@ -26,14 +26,14 @@ same-length c = search needs
 returns : tie.Need-returns
 returns c = search needs
 
-slice-reshare-prefix-lookup : tie.Need-slice-reshare-prefix-lookup
-slice-reshare-prefix-lookup c = search needs
+slice-reshare-prefix-look-up : tie.Need-slice-reshare-prefix-look-up
+slice-reshare-prefix-look-up c = search needs
 
-slice-aggregate-lookup : tie.Need-slice-aggregate-lookup
-slice-aggregate-lookup c = simp length-take (omega arith)
+slice-aggregate-look-up : tie.Need-slice-aggregate-look-up
+slice-aggregate-look-up c = simp length-take (omega arith)
 
-lookup-requires : tie.Need-lookup-requires
-lookup-requires c κs = search needs
+look-up-requires : tie.Need-look-up-requires
+look-up-requires c κs = search needs
 
 same-length-2 : tie.Need-same-length-2
 same-length-2 c = search needs
@@ -52,8 +52,8 @@ lookup-spec =
     unknown-requires
     same-length
     returns
-    slice-reshare-prefix-lookup
-    slice-aggregate-lookup
-    lookup-requires
+    slice-reshare-prefix-look-up
+    slice-aggregate-look-up
+    look-up-requires
     same-length-2
     returns-2)

@@ -1,11 +1,11 @@
--- `bench::input::move_front` meets its contract: each byte moved is one of the buffer. Assumes nothing.
+-- `bench_input::move_front` meets its contract: each byte moved is one of the buffer. Assumes nothing.
 use borrow.Author.Needs.{needs}
 use native.Mathlib.Omega.{arith}
 use Prim.Native.Nat.{_-_}
 use lib.ListN.{length, length-set}
 use mathlib.Core.Path.{_≡_, refl}
-use Rattle.bench.proofs.input.move_front.Statement.{statement}
-use Rattle.bench.proofs.input.move_front.Tie as tie
+use Rattle.bench_input.proofs.move_front.Statement.{statement}
+use Rattle.bench_input.proofs.move_front.Tie as tie
 
 abbrev Inv-loop : tie.InvT-loop
 Inv-loop input₀ from n i₀ input i = length input ≡ length input₀

@@ -1,9 +1,9 @@
--- `bench::ask` meets its contract: the bytes are a part of the buffer. Assumes what `libc` says of the C functions behind it.
+-- `bench_asking::ask` meets its contract: the bytes are a part of the buffer. Assumes what `libc` says of the C functions behind it.
 use lib.ListN.{length-take}
 use native.Mathlib.Omega.{arith}
 use borrow.Author.Needs.{needs}
-use Rattle.bench.proofs.ask.Statement.{statement}
-use Rattle.bench.proofs.ask.Tie as tie
+use Rattle.bench_asking.proofs.ask.Statement.{statement}
+use Rattle.bench_asking.proofs.ask.Tie as tie
 
 bytes-requires : tie.Need-bytes-requires
 bytes-requires c κs = search needs

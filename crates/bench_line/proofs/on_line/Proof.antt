@@ -1,9 +1,9 @@
--- `bench::on_line` meets its contract: the line is lent as far as it is long. Assumes what `libc` says of the C functions behind it.
+-- `bench_line::on_line` meets its contract: the line is lent as far as it is long. Assumes what `libc` says of the C functions behind it.
 use lib.ListN.{length-take}
 use native.Mathlib.Omega.{arith}
 use borrow.Author.Needs.{needs}
-use Rattle.bench.proofs.on_line.Statement.{statement}
-use Rattle.bench.proofs.on_line.Tie as tie
+use Rattle.bench_line.proofs.on_line.Statement.{statement}
+use Rattle.bench_line.proofs.on_line.Tie as tie
 
 least-requires : tie.Need-least-requires
 least-requires c κs = search needs

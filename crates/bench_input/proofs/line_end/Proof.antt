@@ -1,9 +1,9 @@
--- `bench::input::line_end` meets its contract: what was read is a part of the buffer. Assumes nothing.
+-- `bench_input::line_end` meets its contract: what was read is a part of the buffer. Assumes nothing.
 use borrow.Author.Needs.{needs}
 use native.Mathlib.Omega.{arith}
 use lib.ListN.{length-take}
-use Rattle.bench.proofs.input.line_end.Statement.{statement}
-use Rattle.bench.proofs.input.line_end.Tie as tie
+use Rattle.bench_input.proofs.line_end.Statement.{statement}
+use Rattle.bench_input.proofs.line_end.Tie as tie
 
 least-requires : tie.Need-least-requires
 least-requires c κs = search needs

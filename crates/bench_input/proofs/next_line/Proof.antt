@@ -1,8 +1,8 @@
--- `bench::input::next_line` meets its contract: the reads are counted down. Assumes what `libc` says of the C functions behind it.
+-- `bench_input::next_line` meets its contract: the reads are counted down. Assumes what `libc` says of the C functions behind it.
 use borrow.Author.Needs.{needs}
 use native.Mathlib.Omega.{arith}
-use Rattle.bench.proofs.input.next_line.Statement.{statement}
-use Rattle.bench.proofs.input.next_line.Tie as tie
+use Rattle.bench_input.proofs.next_line.Statement.{statement}
+use Rattle.bench_input.proofs.next_line.Tie as tie
 
 abbrev Inv-loop : tie.InvT-loop
 Inv-loop input₀ p₀ left₀ input p left = Unit {0}
