@@ -55,7 +55,7 @@ def fault(what, text):
 
 
 RECORD, OTHER_RECORD = "5A4D0007123033453520202020202020202020200F", "5A4D00081220202020205D20205B202020202020200F"
-RECORDS = "".join(f"5A4D{k:04X}12{k + 65:02X}{'20' * 14}0F" for k in range(12))
+RECORDS = "".join(f"5A4D{k:04X}12{k + 65:02X}{'20' * 14}0F" for k in range(1, 13))
 # What the examples do not have: lines of other lengths among units, all that can be done to a line, refusals of every call, at places where
 # the sink is called next and where it is not, lines that are not understood or not about the path, questions between notes, traces with blanks,
 # quotes and brackets in them, comments behind commands, characters that XML has for itself.
