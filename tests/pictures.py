@@ -55,6 +55,7 @@ def fault(what, text):
 
 
 RECORD, OTHER_RECORD = "5A4D0007123033453520202020202020202020200F", "5A4D00081220202020205D20205B202020202020200F"
+RECORDS = "".join(f"5A4D{k:04X}12{k + 65:02X}{'20' * 14}0F" for k in range(1, 13))
 # What the examples do not have: lines of other lengths among units, all that can be done to a line, refusals of every call, at places where
 # the sink is called next and where it is not, lines that are not understood or not about the path, questions between notes, traces with blanks,
 # quotes and brackets in them, comments behind commands, characters that XML has for itself.
@@ -115,6 +116,7 @@ list 00
 list
 list {RECORD}
 list {RECORD}{OTHER_RECORD} # two
+list {RECORDS}
 cat {RECORD * 12}
 lookup 7
 lookup 0007 {RECORD.lower()}
@@ -372,6 +374,7 @@ class Reading:
                 when = units
                 most = 8 * (42 if asked.split(" ")[0] in ("cat", "lookup", "list") and len(data) % 42 == 0 else 48)  # digits that are drawn
                 data = data if len(data) <= most else f"{data[:most]}({len(data) // 2})"
+                answers = answers if len(answers) <= 8 else answers[:8] + [f"and so on: {len(answers)} lines"]
                 merged.append([f"{head}{comment}<{asked}|{data}|{'|'.join(answers)}>"])
                 continue
             place, text = remark

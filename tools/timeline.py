@@ -24,7 +24,7 @@ from xml.sax.saxutils import escape, quoteattr
 sys.dont_write_bytecode = True  # nothing is left beside the tools
 import script  # noqa: E402
 
-MOST, MOST_LINES = 2000, 8  # columns in one picture, and lines of bytes that were asked about
+MOST, MOST_LINES = 2000, 8  # columns in one picture; lines of bytes that were asked about, and of an answer
 WRAPPED, LONG_TITLE = 70, 110  # characters of a comment's line that may go on below, and of a title of more than one sentence
 LONGEST = 1000  # characters of a comment that are drawn
 
@@ -75,7 +75,12 @@ def bytes_lines(name, data):
         lines = [f"{digits(each[:2])} {digits(each[2:4])} {digits(each[4:5])} {trace_text(each[5:20])} {digits(each[20:])}" for each in records]
     else:
         lines = [digits(data[k : k + 24]) for k in range(0, len(data), 24)]
-    return lines[:MOST_LINES] + [f"and so on: {len(data)} bytes"] * (len(lines) > MOST_LINES) or ["no bytes"]
+    return first_of(lines, f"{len(data)} bytes") or ["no bytes"]
+
+
+def first_of(lines, all_of_it):
+    """As many lines as a picture has room for, and how much it would be."""
+    return lines if len(lines) <= MOST_LINES else lines[:MOST_LINES] + [f"and so on: {all_of_it}"]
 
 
 # ---------------------------------------------------------------------------
@@ -105,8 +110,9 @@ class Question:
         self.units, self.comment = units, comment
         self.asked = step.name + (f" {step.given['circuit']}" if "circuit" in step.given else "")
         self.lines = [as_printed(line) for line in bytes_lines(step.name, step.given["bytes"])]
-        texts = [as_printed(said.text) for said in step.said]
-        self.answers = texts[1:] if len(texts) > 1 else texts  # a listing's heading says nothing where there are lines below it
+        texts = [said.text for said in step.said]
+        texts = texts[1:] if len(texts) > 1 else texts  # a listing's heading says nothing where there are lines below it
+        self.answers = [as_printed(line) for line in first_of(texts, f"{len(texts)} lines")]
         self.refused = step.answer.kind in ("refused", "listing")
 
 
