@@ -400,7 +400,7 @@ def drawn():
     drawing.draw()
     width, height = short(drawing.width), short(drawing.bottom)
     head = ['<?xml version="1.0" encoding="UTF-8"?>',
-            f'<svg xmlns="http://www.w3.org/2000/svg" viewBox="0 0 {width} {height}" width="{width}" height="{height}">',
+            f'<svg xmlns="http://www.w3.org/2000/svg" viewBox="0 0 {width} {height}">',
             f"<title>{TITLE}</title>",
             f"<style>{STYLE}</style>",
             f'<rect width="{width}" height="{height}" class="paper"/>']
