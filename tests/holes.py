@@ -156,6 +156,9 @@ TRIALS = [
     Trial("docs/RULES.md", None, "| a | none | [`sink::sink`] | none |\n", [RULES], ["docs/RULES.md:", "`sink::sink` is written in brackets"]),
     Trial("docs/RULES.md", None, "| a | none | `card::card_parity` | none |\n", [RULES], ["docs/RULES-INDEX.md:", "names are missing", "`card::card_parity`"]),
     Trial("docs/RULES-INDEX.md", None, "\n[`case peek`](../README.md)\n", [RULES], ["docs/RULES-INDEX.md:", "`case peek` stands in no table"]),
+    # an entry point that asks something of its caller
+    Trial("crates/card/src/lib.rt", "fn card_settings_check(label: u8, trace: &[u8]) -> u8\n", "fn card_settings_check(label: u8, trace: &[u8]) -> u8\n    requires { ⌜ label ≡ 1 ⌝ }\n",
+          [RULES, PROMISES], ["card::card_settings_check", "has a requires"]),
     # a library that rests on a program's part
     Trial("crates.txt", "\ncard: parity", "\ncard: bench_say parity", [RULES, PROMISES], ["crates.txt: card rests on bench_say, a part of the program bench"]),
     # what must be believed: another table; a statement that comes to an Inner file, and such a file to which none comes

@@ -12,6 +12,7 @@ Every public function of a library stands in one row of a table of five columns:
                   code that it calls or the definitions that its contract cites; where it changes a definition, the word stands
                   beside it. A crate for tests may have fewer.
 
+No function of the section of entry points has a requires.
 Every theorem of crates/promises/proofs whose name ends in `-determined` stands in a row, and `Determines` says there what is written out below.
 Whatever else the page sets in backquotes as a name (`crate::function`, `crate/label`, `crate/File.name`, `a-theorem`) must exist. What is
 wrong is printed with its line, then a summary; the status is 1 where anything is, and 2 where the text cannot be read.
@@ -371,6 +372,9 @@ def check_page(page, faults):
     for function, place in names.public_functions().items():
         if function not in seen:
             faults.append(f"{place.file}:{place.line}: {function} stands in no row of {page}")
+    for function in entry_points():
+        if function in names.asking():
+            say(seen.get(function), f"{function}, an entry point, has a requires")
     check_theorems(theorems, faults)
     return len(seen), found
 
