@@ -4,26 +4,9 @@ use catalogue::Checked;
 use catalogue::Found;
 use records::Refusal;
 
-fn say_place(p: usize) {
-    bench_say::text(b" ");
-    bench_say::decimal(p as u64);
-}
-
-fn say_refusal(x: Refusal) {
-    bench_say::decimal(records::number(x) as u64);
-    match x {
-        Refusal::Length => {}
-        Refusal::Mark(p) => say_place(p),
-        Refusal::Circuit(p) => say_place(p),
-        Refusal::Label(p) => say_place(p),
-        Refusal::Trace(p) => say_place(p),
-        Refusal::Flags(p) => say_place(p),
-        Refusal::Repeated(later, first) => {
-            say_place(later);
-            say_place(first);
-        }
-        Refusal::NotListed => {}
-    }
+fn say_refused(what: &[u8], x: Refusal) {
+    let places = records::named(x);
+    bench_say::refused(what, records::number(x), places.first, places.second);
 }
 
 // `cat`
@@ -34,8 +17,8 @@ fn check(s: &[u8]) {
             bench_say::decimal(n as u64);
         }
         Checked::Refused(x) => {
-            bench_say::text(b"cat refused ");
-            say_refusal(x);
+            say_refused(b"cat refused ", x);
+            return;
         }
     }
     bench_say::text(b"\n");
@@ -56,8 +39,8 @@ fn look_up(number: u32, s: &[u8]) {
             bench_say::decimal(flags as u64);
         }
         Found::Not(x) => {
-            bench_say::text(b"lookup refused ");
-            say_refusal(x);
+            say_refused(b"lookup refused ", x);
+            return;
         }
     }
     bench_say::text(b"\n");

@@ -13,7 +13,12 @@ pub fn say_order(e: Settings) {
     let answer = settings::answer(e);
     match answer {
         Answer::Refused(_) => {
-            bench_say::refused(b"rx refused ", refusals::number(answer));
+            bench_say::refused(
+                b"rx refused ",
+                refusals::number(answer),
+                refusals::place(answer),
+                0,
+            );
         }
         Answer::Done => {}
     }
@@ -160,7 +165,12 @@ pub fn feed(
     let answer = r.answer;
     match answer {
         Answer::Refused(_) => {
-            bench_say::refused(b"refused ", refusals::number(answer));
+            bench_say::refused(
+                b"refused ",
+                refusals::number(answer),
+                refusals::place(answer),
+                0,
+            );
             return s;
         }
         Answer::Done => {}
@@ -175,7 +185,12 @@ pub fn payload(ais: bool, last: &[u8]) {
     let answer = container::payload_call(last, ais, &mut out);
     match answer {
         Answer::Refused(_) => {
-            bench_say::refused(b"payload refused ", refusals::number(answer));
+            bench_say::refused(
+                b"payload refused ",
+                refusals::number(answer),
+                refusals::place(answer),
+                0,
+            );
             return;
         }
         Answer::Done => {}

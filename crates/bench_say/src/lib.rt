@@ -75,10 +75,20 @@ pub fn unknown(number: u64) {
     text(b"\n");
 }
 
-// What was refused, and the refusal's number.
-pub fn refused(what: &[u8], number: u8) {
+// A place, where there is one.
+fn place(p: usize) {
+    if 0 < p {
+        text(b" ");
+        decimal(p as u64);
+    }
+}
+
+// What was refused, the refusal's number, and the places that it names, at most two, 0 for none.
+pub fn refused(what: &[u8], number: u8, first: usize, second: usize) {
     text(what);
     decimal(number as u64);
+    place(first);
+    place(second);
     text(b"\n");
 }
 

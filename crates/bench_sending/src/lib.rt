@@ -59,7 +59,12 @@ pub fn say_order(x: Sent) {
     let answer = order(x);
     match answer {
         Answer::Refused(_) => {
-            bench_say::refused(b"tx refused ", refusals::number(answer));
+            bench_say::refused(
+                b"tx refused ",
+                refusals::number(answer),
+                refusals::place(answer),
+                0,
+            );
         }
         Answer::Done => {}
     }
@@ -110,7 +115,12 @@ fn queue_one(q: Sources, x: Sent, container: &mut [u8]) -> Sources {
     let answer = sent.answer;
     match answer {
         Answer::Refused(_) => {
-            bench_say::refused(b"container refused ", refusals::number(answer));
+            bench_say::refused(
+                b"container refused ",
+                refusals::number(answer),
+                refusals::place(answer),
+                0,
+            );
             return q;
         }
         Answer::Done => {}
@@ -211,7 +221,12 @@ fn send_unit(q: Sources, a: Adjustment, queue: &mut [u8], unit: &mut [u8]) -> So
     let answer = made.answer;
     match answer {
         Answer::Refused(_) => {
-            bench_say::refused(b"unit refused ", refusals::number(answer));
+            bench_say::refused(
+                b"unit refused ",
+                refusals::number(answer),
+                refusals::place(answer),
+                0,
+            );
             return q;
         }
         Answer::Done => {}

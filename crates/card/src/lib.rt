@@ -4,7 +4,7 @@ ghost use mathlib.Core.Path.{_≡_};
 ghost use Rattle.parity.specs.Parity.{parityOf};
 ghost use Rattle.trace_message.specs.Message.{traceCheck};
 ghost use Rattle.word.specs.Word.{readingOf};
-ghost use Rattle.settings.specs.Faults.{settingsCheck};
+ghost use Rattle.settings.specs.Faults.{settingsCheck, settingsPlace};
 
 // The exclusive or of all bytes; 00 of none.
 #[no_mangle]
@@ -30,10 +30,22 @@ pub extern "C" fn card_word_reading(bytes: &[u8]) -> u16
     word::reading(bytes)
 }
 
-// The number by which every call with this label and this trace will be refused, 0 where none will: 4, 5. The trace is fifteen characters; any other number of them is 5.
+// The refusal of settings: its number, 0 for none, and the place of the character that it names, 0 for none.
+#[repr(C)]
+pub struct SettingsAnswer {
+    pub number: u8,
+    pub place: usize,
+}
+
+// The number by which every call with this label and this trace will be refused, 0 where none will: 4, 5, 20, 21; 5 and 20 with the place of the character, from 1.
+// The trace is fifteen characters; any other number of them is 5 with place 0.
 #[no_mangle]
-pub extern "C" fn card_settings_check(label: u8, trace: &[u8]) -> u8
-    ensures { λ r. ⌜ r ≡ settingsCheck label (now (trace .entry)) ⌝ }
+pub extern "C" fn card_settings_check(label: u8, trace: &[u8]) -> SettingsAnswer
+    ensures { λ r. ⌜ r ≡ record { number = settingsCheck label (now (trace .entry)); place = settingsPlace label (now (trace .entry)) } ⌝ }
 {
-    refusals::number(settings::answer_alone(label, trace))
+    let a = settings::answer_alone(label, trace);
+    SettingsAnswer {
+        number: refusals::number(a),
+        place: refusals::place(a),
+    }
 }

@@ -1,10 +1,10 @@
 -- Worked examples of what is sent and of what is refused, computed by the check from the definitions. Assumes nothing.
 use mathlib.Core.Path.{_≡_, refl}
 use mathlib.Core.Bool.{true}
-use mathlib.Core.List.{List, [], _∷_, map}
+use mathlib.Core.List.{List, [], _∷_, _++_, map}
 use Prim.Native.Nat.{ℕ}
 use lib.ListN.{replicate}
-use Rattle.refusals.specs.Refusals.{answerNumber, answerOf}
+use Rattle.refusals.specs.Refusals.{answerNumber, answerSays, answerOf}
 use Rattle.refusals.specs.declared.Answer.the-variants.{Done}
 use Rattle.shape.specs.Shape.{au4}
 use Rattle.container.specs.Container.{rowsOf, containerOf, overheadIn}
@@ -54,7 +54,7 @@ first-sent = refl
 
 -- ---- the order of refusals
 
--- "Container source: 8, 4, 5, 2, 3, 6": each row has its own fault and all those after it in that order, the last none
+-- "Container source: 8, 4, 5, 2, 3, 6", with 20 and 21 "in the place of 5": each row has its own fault and all those after it in that order, the last none
 pub record Row : Type 0 where
   pub place : ℕ
   pub label : ℕ
@@ -74,16 +74,18 @@ rows =
     ∷ row 15 0x01 (replicate 15 0x1f) 2339 2348 9
     ∷ row 15 0x01 (replicate 15 0x7f) 2339 2348 9
     ∷ row 15 0x01 (replicate 15 0x20) 2339 2348 9
+    ∷ row 15 0x01 (replicate 14 0x20 ++ (0x21 ∷ [])) 2339 2348 9
     ∷ row 15 0x01 (replicate 15 0x7e) 2340 2348 9
     ∷ row 15 0x01 (replicate 15 0x7e) 2340 2349 9
     ∷ row 15 0x01 (replicate 15 0x7e) 2340 2349 8
     ∷ []
 
-pub answered : Row → ℕ
-answered r = answerNumber (answerOf (sendFaults au4 (r .place) (r .label) (r .trace) (r .payload) (r .container) (r .violations)))
+pub answered : Row → List ℕ
+answered r = answerSays (answerOf (sendFaults au4 (r .place) (r .label) (r .trace) (r .payload) (r .container) (r .violations)))
 
-pub source-order : map answered rows ≡ 8 ∷ 4 ∷ 4 ∷ 5 ∷ 5 ∷ 2 ∷ 3 ∷ 6 ∷ 0 ∷ []
-unfolding source.refusals row rows answered
+pub source-order : map answered rows ≡
+    (8 ∷ []) ∷ (4 ∷ []) ∷ (4 ∷ []) ∷ (5 ∷ 1 ∷ []) ∷ (20 ∷ 1 ∷ []) ∷ (21 ∷ []) ∷ (2 ∷ []) ∷ (3 ∷ []) ∷ (6 ∷ []) ∷ (0 ∷ []) ∷ []
+unfolding answerSays source.refusals row rows answered
 source-order = refl
 
 -- "Payload call: 3, 2"

@@ -7,12 +7,13 @@ use Prim.Native.Nat.{ℕ, _<_}
 use native.Mathlib.Omega.{arith}
 use lib.Dec.{ltb}
 use lib.ListN.{length}
-use Rattle.refusals.specs.Refusals.{Fault, due, answerOf, answerNumber}
+use Rattle.refusals.specs.Refusals.{Fault, due, answerOf}
 use Rattle.refusals.specs.declared.Refusal.{Refusal}
 use Rattle.refusals.specs.declared.Answer.{Answer}
 use Rattle.refusals.specs.declared.Answer.the-variants.{Done, Refused}
-use Rattle.refusals.proofs.Wrong.{none-done, number-first, outcome-answer, outcome-done, outcome-refused}
-use Rattle.settings.specs.Faults.{pathFaults, settingsCheck}
+use Rattle.refusals.proofs.Wrong.{none-done, outcome-answer, outcome-done, outcome-refused}
+use Rattle.refusals.proofs.Joined.{joined-refused}
+use Rattle.settings.specs.Faults.{pathFaults, settingsAnswer}
 use Rattle.settings.proofs.Refuses.{check-path}
 use Rattle.shape.specs.Shape.{Fit}
 use Rattle.shape.specs.declared.Shape.{Shape}
@@ -40,12 +41,11 @@ module _ (s : Shape) (state : State) (g : Given) (trace payload before : List �
   unfolding containerSource
   source-answer = outcome-answer (λ (o : SentOutcome). o .sent .answer) faults _ _ refl (λ x. refl)
 
-  -- a label and a trace that a host's check refuses are refused by its number in every call; only a state out of range comes before
-  pub source-checked : length trace ≡ 15 → ltb 15 (state .place) ≡ false → 0 < settingsCheck (g .label) trace
-      → answerNumber (containerSource s state g trace payload before .sent .answer) ≡ settingsCheck (g .label) trace
+  -- a label and a trace that a host's check refuses are refused as it says in every call; only a state out of range comes before
+  pub source-checked : length trace ≡ 15 → ltb 15 (state .place) ≡ false → (x : Refusal) → settingsAnswer (g .label) trace ≡ Refused x
+      → containerSource s state g trace payload before .sent .answer ≡ Refused x
   unfolding sendFaults due
-  source-checked fifteen inside some =
-      rw (source-answer, inside, check-path (g .label) trace fifteen) (number-first (pathFaults (g .label) trace) _ (rw (check-path (g .label) trace fifteen) at some))
+  source-checked fifteen inside x e = rw (source-answer, inside) (joined-refused (pathFaults (g .label) trace) _ x (sym (check-path (g .label) trace fifteen) ∙ e))
 
   -- "A refusal returns its number and the old state. Nothing lent is written."
   pub source-refused : (x : Refusal) → containerSource s state g trace payload before .sent .answer ≡ Refused x → containerSource s state g trace payload before ≡ record { sent = record { answer = Refused x; state = state }; container = before }

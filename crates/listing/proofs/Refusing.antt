@@ -4,11 +4,14 @@ use mathlib.Core.List.{List, [], _∷_, append-assoc, append-nil}
 use Prim.Native.Nat.{ℕ, _+_, _≤_}
 use native.Mathlib.Omega.{arith}
 use lib.ListN.{length}
+use lib.Seq.{take-all}
 use Rattle.text.specs.Text.{decimalOf}
 use Rattle.text.specs.Inner.{Written}
 use Rattle.text.proofs.Digits.{length-most}
 use Rattle.text.proofs.Pieces.{length-written, written-none}
-use Rattle.records.specs.Refusals.{catalogueNumber, cataloguePlaces}
+use Rattle.records.specs.declared.PlaceList.{PlaceList}
+use Rattle.records.specs.Refusals.{catalogueNumber, cataloguePlaces, placesGiven, placesIn}
+use Rattle.records.proofs.Numbers.{named-all}
 use Rattle.records.specs.declared.Refusal.{Refusal}
 use Rattle.listing.specs.Listing.{blankBefore, refusalLine}
 use Rattle.listing.specs.Inner.{Short, Within}
@@ -25,26 +28,33 @@ module _ (b m : List ℕ) (at i p : ℕ) (h : at + 21 ≤ length b) (w : Written
 
 -- ---- no place, one, and two
 
-module _ (b : List ℕ) (ps : List ℕ) (at : ℕ) where
-  pub places-none : ps ≡ [] → Within 42 at (blankBefore ps) b b at
-  unfolding blankBefore
+-- two, or more, which no refusal names
+all-of : (p : PlaceList) → 2 ≤ p .count → placesIn p ≡ p .first ∷ p .second ∷ []
+unfolding placesIn
+all-of p h = take-all (p .count) (p .first ∷ p .second ∷ []) h
+
+module _ (b : List ℕ) (p : PlaceList) (at : ℕ) where
+  pub places-none : p .count ≡ 0 → Within 42 at (blankBefore (placesIn p)) b b at
+  unfolding blankBefore placesIn
   places-none e = rw e (within 42 (written-none at b) (omega arith))
 
-  pub places-one : (a : List ℕ) (n p : ℕ) → ps ≡ p ∷ [] → Within 21 at (0x20 ∷ decimalOf p) b a n → Within 42 at (blankBefore ps) b a n
-  unfolding blankBefore
-  places-one a n p e w = rw (e, append-nil) (record { written = w .written; short = omega arith })
+  pub places-one : (a : List ℕ) (n : ℕ) → p .count ≡ 1 → Within 21 at (0x20 ∷ decimalOf (p .first)) b a n → Within 42 at (blankBefore (placesIn p)) b a n
+  unfolding blankBefore placesIn
+  places-one a n e w = rw (e, append-nil) (record { written = w .written; short = omega arith })
 
-  pub places-two : (m a : List ℕ) (i n p q : ℕ) → ps ≡ p ∷ q ∷ [] → at + 42 ≤ length b
-      → Within 21 at (0x20 ∷ decimalOf p) b m i → Within 21 i (0x20 ∷ decimalOf q) m a n → Within 42 at (blankBefore ps) b a n
+  pub places-two : (m a : List ℕ) (i n : ℕ) → (p .count ≡ 0 → ⊥) → (p .count ≡ 1 → ⊥) → at + 42 ≤ length b
+      → Within 21 at (0x20 ∷ decimalOf (p .first)) b m i → Within 21 i (0x20 ∷ decimalOf (p .second)) m a n → Within 42 at (blankBefore (placesIn p)) b a n
   unfolding blankBefore
-  places-two m a i n p q e h w v = rw (e, append-nil) (within-then w v (omega arith))
+  places-two m a i n no-0 no-1 h w v =
+      let both : placesIn p ≡ p .first ∷ p .second ∷ [] = all-of p (omega arith) in
+      rw (both, append-nil) (within-then w v (omega arith))
 
 -- ---- the line
 
-pub refusal-written : (x : Refusal) (b m m′ a : List ℕ) (i j n y : ℕ) → 46 ≤ length b → Short 3 (catalogueNumber x) y
-    → Written 0 (decimalOf y) b m i → Within 42 i (blankBefore (cataloguePlaces x)) m m′ j → Written j (0x0a ∷ []) m′ a n
+pub refusal-written : (x : Refusal) (p : PlaceList) (b m m′ a : List ℕ) (i j n y : ℕ) → 46 ≤ length b → Short 3 (catalogueNumber x) y
+    → Written 0 (decimalOf y) b m i → p ≡ placesGiven (cataloguePlaces x) → Within 42 i (blankBefore (placesIn p)) m m′ j → Written j (0x0a ∷ []) m′ a n
     → Written 0 (refusalLine x) b a n
 unfolding refusalLine
-refusal-written x b m m′ a i j n y h s w v u =
-    let wv = within-then (within-number s w) v (omega arith) in
+refusal-written x p b m m′ a i j n y h s w e v u =
+    let wv = within-then (within-number s w) (rw (named-all x p e) at v) (omega arith) in
     rw append-assoc at (within-then wv (within 1 u (omega arith)) (omega arith) .written)

@@ -44,7 +44,7 @@ unfoldable pub blankBefore : List ℕ → List ℕ
 blankBefore [] = []
 blankBefore (x ∷ xs) = 0x20 ∷ (decimalOf x ++ blankBefore xs)
 
--- a refusal: `13 5 2`
+-- a refusal: `13 5 2`, `20 4 2`, `21 4`
 unfoldable pub refusalLine : Refusal → List ℕ
 refusalLine x = decimalOf (catalogueNumber x) ++ (blankBefore (cataloguePlaces x) ++ (0x0a ∷ []))
 

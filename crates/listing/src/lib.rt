@@ -2,6 +2,7 @@
 // What it is stands in specs/Listing.antt, and what the functions inside answer in specs/Inner.antt. The program `list` prints it.
 use catalogue::Checked;
 use records::Kind;
+use records::PlaceList;
 use records::Refusal;
 ghost use mathlib.Core.Path.{_≡_};
 ghost use mathlib.Core.List.{_∷_, _++_};
@@ -11,7 +12,7 @@ ghost use Rattle.text.specs.Text.{decimalOf};
 ghost use Rattle.text.specs.Inner.{Written};
 ghost use Rattle.records.specs.Record.{oldKind, circuitIn, flagsIn};
 ghost use Rattle.records.specs.Inner.{fieldBytes, Serves};
-ghost use Rattle.records.specs.Refusals.{catalogueNumber, cataloguePlaces};
+ghost use Rattle.records.specs.Refusals.{catalogueNumber, placesIn};
 ghost use Rattle.listing.specs.Listing.{heading, numberAndLabel, traceAndFlags, lineOf, linesFrom, blankBefore, refusalLine, Listed};
 ghost use Rattle.listing.specs.Inner.{Short, Within};
 
@@ -102,24 +103,19 @@ fn place(out: &mut [u8], at: usize, p: usize) -> usize
     text::decimal(out, a, p as u64)
 }
 
-// The places that a refusal names: for 13 the later record's, and then the first's; for 9 none.
-fn places(out: &mut [u8], at: usize, x: Refusal) -> usize
+// The places that a refusal names, in their order.
+fn places(out: &mut [u8], at: usize, p: PlaceList) -> usize
     requires { ⌜ at + 42 ≤ length (now out) ⌝ }
-    ensures { λ n. ⌜ Within 42 at (blankBefore (cataloguePlaces x)) (now (out .entry)) (now (out .exit)) n ⌝ }
+    ensures { λ n. ⌜ Within 42 at (blankBefore (placesIn p)) (now (out .entry)) (now (out .exit)) n ⌝ }
 {
-    match x {
-        Refusal::Length => at,
-        Refusal::Mark(p) => place(out, at, p),
-        Refusal::Circuit(p) => place(out, at, p),
-        Refusal::Label(p) => place(out, at, p),
-        Refusal::Trace(p) => place(out, at, p),
-        Refusal::Flags(p) => place(out, at, p),
-        Refusal::Repeated(later, first) => {
-            let a = place(out, at, later);
-            place(out, a, first)
-        }
-        Refusal::NotListed => at,
+    if p.count == 0 {
+        return at;
     }
+    let a = place(out, at, p.first);
+    if p.count == 1 {
+        return a;
+    }
+    place(out, a, p.second)
 }
 
 // A refusal's number, of one byte.
@@ -135,7 +131,7 @@ fn refusal_line(out: &mut [u8], x: Refusal) -> usize
     ensures { λ n. ⌜ Written 0 (refusalLine x) (now (out .entry)) (now (out .exit)) n ⌝ }
 {
     let a = text::decimal(out, 0, number(x));
-    let b = places(out, a, x);
+    let b = places(out, a, records::named(x));
     text::byte(out, b, 0x0a)
 }
 

@@ -1,12 +1,13 @@
 -- The answers packed, by what the callees answered. Assumes nothing.
 use mathlib.Core.Path.{_≡_, ap, _∙_}
 use mathlib.Core.Bool.{true, cond}
-use mathlib.Core.List.{List, [], _∷_}
+use mathlib.Core.List.{List}
 use Prim.Native.Nat.{ℕ, _+_, _*_, _%_}
 use borrow.Author.Tests.{eq-eqb}
 use lib.Dec.{eqb}
 use lib.ListN.{length}
-use Rattle.records.specs.Refusals.{catalogueNumber, cataloguePlaces}
+use Rattle.records.specs.declared.PlaceList.{PlaceList}
+use Rattle.records.specs.Refusals.{catalogueNumber, cataloguePlaces, placesGiven}
 use Rattle.catalogue.specs.Catalogue.{checkOf, Checks, lookupOf, LooksUp}
 use Rattle.probe.specs.Probe.{packed, packedCheck, packedFound}
 use Rattle.records.specs.declared.Kind.{Kind}
@@ -17,20 +18,12 @@ use Rattle.catalogue.specs.declared.Found.{Found}
 use Rattle.catalogue.specs.declared.Found.the-variants.{Entry, Not}
 use Rattle.catalogue.specs.declared.Looked.{Looked}
 
--- ---- a refusal, of number n, by the places that it names: r is what was packed
+-- ---- a refusal, of number n and places p: r is what was packed
 
-module _ (x : Refusal) (n r : ℕ) (is-n : n ≡ catalogueNumber x) where
-  pub packed-none : cataloguePlaces x ≡ [] → r ≡ n * 4294967296 + 0 % 65536 * 65536 + 0 % 65536 → r ≡ packed x
-  unfolding packed
-  packed-none e f = f ∙ rw (is-n, e)
-
-  pub packed-one : (p : ℕ) → cataloguePlaces x ≡ p ∷ [] → r ≡ n * 4294967296 + p % 65536 * 65536 + 0 % 65536 → r ≡ packed x
-  unfolding packed
-  packed-one p e f = f ∙ rw (is-n, e)
-
-  pub packed-two : (p q : ℕ) → cataloguePlaces x ≡ p ∷ q ∷ [] → r ≡ n * 4294967296 + p % 65536 * 65536 + q % 65536 → r ≡ packed x
-  unfolding packed
-  packed-two p q e f = f ∙ rw (is-n, e)
+pub packed-is : (x : Refusal) (n r : ℕ) (p : PlaceList) → n ≡ catalogueNumber x → p ≡ placesGiven (cataloguePlaces x)
+    → r ≡ n * 4294967296 + p .first % 65536 * 65536 + p .second % 65536 → r ≡ packed x
+unfolding packed
+packed-is x n r p is-n is-p e = e ∙ rw (is-n, is-p)
 
 -- ---- the check, which answered c
 

@@ -1,7 +1,6 @@
 -- The answers of the catalogue as plain numbers, so that tests and benchmarks in another language can read them.
 use Prim.Native.Nat.{ℕ, _+_, _*_, _%_}
-use lib.ListN.{getD}
-use Rattle.records.specs.Refusals.{catalogueNumber, cataloguePlaces}
+use Rattle.records.specs.Refusals.{catalogueNumber, cataloguePlaces, placesGiven}
 use Rattle.records.specs.declared.Refusal.{Refusal}
 use Rattle.catalogue.specs.declared.Checked.{Checked}
 use Rattle.catalogue.specs.declared.Checked.the-variants.{Good, Refused}
@@ -10,7 +9,8 @@ use Rattle.catalogue.specs.declared.Found.the-variants.{Entry, Not}
 
 -- a refusal: its number, then two places of 16 bits each, 0 where there is none
 unfoldable pub packed : Refusal → ℕ
-packed x = catalogueNumber x * 4294967296 + getD (cataloguePlaces x) 0 0 % 65536 * 65536 + getD (cataloguePlaces x) 1 0 % 65536
+packed x =
+    catalogueNumber x * 4294967296 + placesGiven (cataloguePlaces x) .first % 65536 * 65536 + placesGiven (cataloguePlaces x) .second % 65536
 
 -- a good catalogue: the number of its records
 unfoldable pub packedCheck : Checked → ℕ

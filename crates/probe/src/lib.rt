@@ -74,17 +74,8 @@ fn pack(number: u8, place: usize, second: usize) -> u64
 fn pack_refusal(x: Refusal) -> u64
     ensures { λ r. ⌜ r ≡ packed x ⌝ }
 {
-    let n = records::number(x);
-    match x {
-        Refusal::Length => pack(n, 0, 0),
-        Refusal::Mark(p) => pack(n, p, 0),
-        Refusal::Circuit(p) => pack(n, p, 0),
-        Refusal::Label(p) => pack(n, p, 0),
-        Refusal::Trace(p) => pack(n, p, 0),
-        Refusal::Flags(p) => pack(n, p, 0),
-        Refusal::Repeated(later, first) => pack(n, later, first),
-        Refusal::NotListed => pack(n, 0, 0),
-    }
+    let places = records::named(x);
+    pack(records::number(x), places.first, places.second)
 }
 
 // The check of a catalogue.

@@ -2,7 +2,7 @@
 use mathlib.Core.Path.{_≡_, refl, ap, _∙_}
 use mathlib.Core.List.{List}
 use Prim.Native.Nat.{ℕ}
-use Rattle.refusals.specs.Refusals.{answerNumber}
+use Rattle.refusals.specs.Refusals.{answerNumber, answerPlace}
 use Rattle.shape.specs.Shape.{au4}
 use Rattle.pointer_state.specs.declared.State as reading
 use Rattle.pointer_state.specs.State.{offsetOf}
@@ -34,9 +34,10 @@ pub plain-is : (s : State) (k o : ℕ) → k ≡ stateKind (s .pointer .state) �
 unfolding plainOf
 plain-is s k o e f = rw (e, f) refl
 
-pub shown-is : (x : Received) (n : ℕ) (p : Plain) → n ≡ answerNumber (x .answer) → p ≡ plainOf (x .state)
+pub shown-is : (x : Received) (n o : ℕ) (p : Plain) → n ≡ answerNumber (x .answer) → o ≡ answerPlace (x .answer) → p ≡ plainOf (x .state)
     → record {
       number = n;
+      place = o;
       state = p;
       ended = x .ended;
       actions = x .actions;
@@ -46,7 +47,7 @@ pub shown-is : (x : Received) (n : ℕ) (p : Plain) → n ≡ answerNumber (x .a
     }
     ≡ shownOf x
 unfolding shownOf
-shown-is x n p e f = rw (e, f) refl
+shown-is x n o p e g f = rw (e, g, f) refl
 
 pub fresh-is : (s : State) (p : Plain) → s ≡ freshSink → p ≡ plainOf s → p ≡ plainOf freshSink
 fresh-is s p e f = f ∙ ap plainOf e

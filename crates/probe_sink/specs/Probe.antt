@@ -6,7 +6,7 @@ use mathlib.Core.List.{List}
 use lib.Dec.{eqb, ltb}
 use lib.ListN.{length}
 use Rattle.copier.specs.Put.{put}
-use Rattle.refusals.specs.Refusals.{answerNumber}
+use Rattle.refusals.specs.Refusals.{answerNumber, answerPlace}
 use Rattle.shape.specs.Shape.{au4}
 use Rattle.pointer_state.specs.declared.State as pointer-state
 use Rattle.pointer_state.specs.declared.State.the-variants.{Normal, Alarm, Lost}
@@ -55,6 +55,7 @@ unfoldable pub shownOf : Received → Shown
 shownOf x =
     record {
       number = answerNumber (x .answer);
+      place = answerPlace (x .answer);
       state = plainOf (x .state);
       ended = x .ended;
       actions = x .actions;

@@ -27,10 +27,11 @@ pub struct Plain {
     pub total: u16,
 }
 
-// What a call answers: the refusal's number, 0 for none, and the rest as the sink has it.
+// What a call answers: the refusal's number, 0 for none, the character's place that it names, 0 for none, and the rest as the sink has it.
 #[repr(C)]
 pub struct Shown {
     pub number: u8,
+    pub place: usize,
     pub state: Plain,
     pub ended: Ended,
     pub actions: Actions,
@@ -112,6 +113,7 @@ fn show(x: Received) -> Shown
     let causes = x.causes;
     Shown {
         number: refusals::number(a),
+        place: refusals::place(a),
         state: plain_of(s),
         ended,
         actions,

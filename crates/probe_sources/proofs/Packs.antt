@@ -2,8 +2,8 @@
 use mathlib.Core.Path.{_≡_, ap, _∙_}
 use mathlib.Core.Bool.{Bool}
 use mathlib.Core.List.{List}
-use Prim.Native.Nat.{ℕ, _+_, _*_}
-use Rattle.refusals.specs.Refusals.{answerNumber}
+use Prim.Native.Nat.{ℕ, _+_, _*_, _%_}
+use Rattle.refusals.specs.Refusals.{answerNumber, answerPlace}
 use Rattle.refusals.specs.declared.Answer.{Answer}
 use Rattle.shape.specs.declared.Shape.{Shape}
 use Rattle.shape.specs.declared.Adjustment.{Adjustment}
@@ -23,9 +23,10 @@ source-packed s t n e p = p ∙ ap packedSource e
 pub unit-packed : (s t : between-units.State) (n : ℕ) → s ≡ t → n ≡ packedUnit s → n ≡ packedUnit t
 unit-packed s t n e p = p ∙ ap packedUnit e
 
-pub sent-packed : (x : Sent) (n p : ℕ) → n ≡ answerNumber (x .answer) → p ≡ packedSource (x .state) → n * 65536 + p ≡ packedSent x
+pub sent-packed : (x : Sent) (n p o place : ℕ) → place ≡ answerPlace (x .answer) → o ≡ place % 256 → n ≡ answerNumber (x .answer) → p ≡ packedSource (x .state)
+    → o * 16777216 + n * 65536 + p ≡ packedSent x
 unfolding packedSent
-sent-packed x n p e f = rw (e, f)
+sent-packed x n p o place g h e f = rw (h, g, e, f)
 
 pub made-packed : (x : Made) (n p : ℕ) → n ≡ answerNumber (x .answer) → p ≡ packedUnit (x .state) → n * 4294967296 + x .ended * 16777216 + p ≡ packedMade x
 unfolding packedMade

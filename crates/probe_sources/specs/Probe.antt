@@ -1,10 +1,10 @@
 -- The states and answers of the sources as plain numbers, so that tests and benchmarks in another language can read them.
 use mathlib.Core.Path.{_≡_}
-use Prim.Native.Nat.{ℕ, _+_, _*_}
+use Prim.Native.Nat.{ℕ, _+_, _*_, _%_}
 use mathlib.Core.Bool.{Bool, cond}
 use mathlib.Core.List.{List}
 use lib.Dec.{eqb}
-use Rattle.refusals.specs.Refusals.{answerNumber}
+use Rattle.refusals.specs.Refusals.{answerNumber, answerPlace}
 use Rattle.shape.specs.declared.Adjustment.{Adjustment}
 use Rattle.shape.specs.declared.Adjustment.the-variants as ask
 use Rattle.container.specs.Payload.{Handed}
@@ -20,9 +20,9 @@ use Rattle.unit_source.specs.declared.Made.{Made}
 unfoldable pub packedSource : between-containers.State → ℕ
 packedSource s = s .place * 256 + s .parity
 
--- its answer: the refusal's number, 0 for none, and the state
+-- its answer: the character's place that a refusal names, in a byte, the refusal's number, 0 for none, and the state
 unfoldable pub packedSent : Sent → ℕ
-packedSent x = answerNumber (x .answer) * 65536 + packedSource (x .state)
+packedSent x = answerPlace (x .answer) % 256 * 16777216 + answerNumber (x .answer) * 65536 + packedSource (x .state)
 
 -- what it is given, a number at a time
 unfoldable pub givenOf : ℕ → ℕ → ℕ → ℕ → ℕ → ℕ → ℕ → Bool → Given

@@ -1,7 +1,7 @@
 // For tests and benchmarks only: the sources and the payload call, as functions that Rust and C can link.
 // States and answers become numbers by the definitions of specs/Probe.antt. Nothing of the card rests on this crate.
 ghost use mathlib.Core.Path.{_≡_};
-ghost use Prim.Native.Nat.{_<_};
+ghost use Prim.Native.Nat.{_%_, _<_};
 ghost use Rattle.shape.specs.Shape.{au4};
 ghost use Rattle.container.specs.Payload.{payloadCall};
 ghost use Rattle.container_source.specs.Source as containers;
@@ -21,12 +21,19 @@ fn pack_source(s: container_source::State) -> u32
     s.place as u32 * 256 + s.parity as u32
 }
 
+// The place that a refusal names, in a byte; 0 where it names none.
+fn pack_place(p: usize) -> u32
+    ensures { λ r. ⌜ (r ≡ p % 256) × (r < 256) ⌝ }
+{
+    (p % 256) as u32
+}
+
 fn pack_sent(x: Sent) -> u32
     ensures { λ r. ⌜ r ≡ packedSent x ⌝ }
 {
     let a = x.answer;
     let s = x.state;
-    refusals::number(a) as u32 * 65536 + pack_source(s)
+    pack_place(refusals::place(a)) * 16777216 + refusals::number(a) as u32 * 65536 + pack_source(s)
 }
 
 // The state of a container source that has sent nothing.

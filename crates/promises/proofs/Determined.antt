@@ -10,9 +10,12 @@ use denote.Triple.Clauses.{AtExit}
 use denote.Ref.{now}
 use Rattle.refusals.specs.declared.Answer.{Answer}
 use Rattle.settings.specs.declared.Flags.{Flags}
+use Rattle.settings.specs.declared.TraceAnswer.{TraceAnswer}
 use Rattle.text.specs.Inner.{Written}
 use Rattle.records.specs.declared.Kind.{Kind}
 use Rattle.records.specs.declared.First.{First}
+use Rattle.records.specs.declared.PlaceList.{PlaceList}
+use Rattle.card.specs.declared.SettingsAnswer.{SettingsAnswer}
 use Rattle.catalogue.specs.declared.Checked.{Checked}
 use Rattle.catalogue.specs.declared.Looked.{Looked}
 use Rattle.parity.proofs.parity.Kinds as parity
@@ -27,8 +30,8 @@ use Rattle.trace_message.proofs.same.Kinds as trace-message-same
 use Rattle.trace_message.proofs.same.Reads as trace-message-same-promise
 use Rattle.settings.proofs.label_refused.Kinds as settings-label-refused
 use Rattle.settings.proofs.label_refused.Reads as settings-label-refused-promise
-use Rattle.settings.proofs.trace_refused.Kinds as settings-trace-refused
-use Rattle.settings.proofs.trace_refused.Reads as settings-trace-refused-promise
+use Rattle.settings.proofs.trace_answer.Kinds as settings-trace-answer
+use Rattle.settings.proofs.trace_answer.Reads as settings-trace-answer-promise
 use Rattle.settings.proofs.flags_of.Kinds as settings-flags-of
 use Rattle.settings.proofs.flags_of.Reads as settings-flags-of-promise
 use Rattle.settings.proofs.path_answer.Kinds as settings-path-answer
@@ -67,6 +70,8 @@ use Rattle.catalogue.proofs.lookup.Kinds as catalogue-lookup
 use Rattle.catalogue.proofs.lookup.Reads as catalogue-lookup-promise
 use Rattle.records.proofs.number.Kinds as records-number
 use Rattle.records.proofs.number.Reads as records-number-promise
+use Rattle.records.proofs.named.Kinds as records-named
+use Rattle.records.proofs.named.Reads as records-named-promise
 use Rattle.card.proofs.card_parity.Kinds as card-parity
 use Rattle.card.proofs.card_parity.Reads as card-parity-promise
 use Rattle.card.proofs.card_trace_check.Kinds as card-trace-check
@@ -151,8 +156,8 @@ trace-message-same-determined κs a x y s t p q = p ∙ sym q
 pub settings-label-refused-determined : Determines {O = Bool} 0 settings-label-refused.ps settings-label-refused.r settings-label-refused-promise.Post (λ κs r e. r)
 settings-label-refused-determined κs a x y s t p q = p ∙ sym q
 
-pub settings-trace-refused-determined : Determines {O = Bool} 1 settings-trace-refused.ps settings-trace-refused.r settings-trace-refused-promise.Post (λ κs r e. r)
-settings-trace-refused-determined κs a x y s t p q = p ∙ sym q
+pub settings-trace-answer-determined : Determines {O = TraceAnswer} 1 settings-trace-answer.ps settings-trace-answer.r settings-trace-answer-promise.Post (λ κs r e. r)
+settings-trace-answer-determined κs a x y s t p q = p ∙ sym q
 
 pub settings-flags-of-determined : Determines {O = Flags} 0 settings-flags-of.ps settings-flags-of.r settings-flags-of-promise.Post (λ κs r e. r)
 settings-flags-of-determined κs a x y s t p q = p ∙ sym q
@@ -215,6 +220,9 @@ catalogue-lookup-determined κs a x y s t p q = p .answer-is ∙ sym (q .answer-
 pub records-number-determined : Determines {O = ℕ} 0 records-number.ps records-number.r records-number-promise.Post (λ κs r e. r)
 records-number-determined κs a x y s t p q = p ∙ sym q
 
+pub records-named-determined : Determines {O = PlaceList} 0 records-named.ps records-named.r records-named-promise.Post (λ κs r e. r)
+records-named-determined κs a x y s t p q = p ∙ sym q
+
 -- ---- card
 
 pub card-parity-determined : Determines {O = ℕ} 1 card-parity.ps card-parity.r card-parity-promise.Post (λ κs r e. r)
@@ -226,7 +234,7 @@ card-trace-check-determined κs a x y s t p q = p ∙ sym q
 pub card-word-reading-determined : Determines {O = ℕ} 1 card-word-reading.ps card-word-reading.r card-word-reading-promise.Post (λ κs r e. r)
 card-word-reading-determined κs a x y s t p q = p ∙ sym q
 
-pub card-settings-check-determined : Determines {O = ℕ} 1 card-settings-check.ps card-settings-check.r card-settings-check-promise.Post (λ κs r e. r)
+pub card-settings-check-determined : Determines {O = SettingsAnswer} 1 card-settings-check.ps card-settings-check.r card-settings-check-promise.Post (λ κs r e. r)
 card-settings-check-determined κs a x y s t p q = p ∙ sym q
 
 -- ---- records: what is read of one, the bytes of the part that is handed back

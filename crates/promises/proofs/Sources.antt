@@ -14,6 +14,10 @@ use Rattle.probe_sources.specs.Probe.{Probed}
 use Rattle.promises.proofs.Determined.{Determines}
 use Rattle.refusals.proofs.number.Kinds as refusals-number
 use Rattle.refusals.proofs.number.Reads as refusals-number-promise
+use Rattle.refusals.proofs.place.Kinds as refusals-place
+use Rattle.refusals.proofs.place.Reads as refusals-place-promise
+use Rattle.refusals.proofs.trace_number.Kinds as refusals-trace-number
+use Rattle.refusals.proofs.trace_number.Reads as refusals-trace-number-promise
 use Rattle.shape.proofs.au4_shape.Kinds as shape-au4-shape
 use Rattle.shape.proofs.au4_shape.Reads as shape-au4-shape-promise
 use Rattle.shape.proofs.place.Kinds as shape-place
@@ -57,6 +61,12 @@ use Rattle.probe_sources.proofs.probe_payload.Reads as probe-payload-promise
 
 pub refusals-number-determined : Determines {O = ℕ} 0 refusals-number.ps refusals-number.r refusals-number-promise.Post (λ κs r e. r)
 refusals-number-determined κs a x y s t p q = p ∙ sym q
+
+pub refusals-place-determined : Determines {O = ℕ} 0 refusals-place.ps refusals-place.r refusals-place-promise.Post (λ κs r e. r)
+refusals-place-determined κs a x y s t p q = p ∙ sym q
+
+pub refusals-trace-number-determined : Determines {O = ℕ} 0 refusals-trace-number.ps refusals-trace-number.r refusals-trace-number-promise.Post (λ κs r e. r)
+refusals-trace-number-determined κs a x y s t p q = p ∙ sym q
 
 -- ---- shape
 

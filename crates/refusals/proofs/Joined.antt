@@ -17,6 +17,6 @@ unfolding answerOf
 joined-done [] ys e = refl
 joined-done (f ∷ xs) ys e = let z : _≡_ {A = ℕ} 0 1 = cc in absurd (omega arith)
 
-pub joined-none : (xs ys : List (Fault Refusal)) → xs ++ ys ≡ [] → (xs ≡ []) × (ys ≡ [])
+pub joined-none : {A : Type 0} (xs ys : List A) → xs ++ ys ≡ [] → (xs ≡ []) × (ys ≡ [])
 joined-none [] ys e = (refl, e)
 joined-none (f ∷ xs) ys e = let z : _≡_ {A = ℕ} 0 1 = cc in absurd (omega arith)

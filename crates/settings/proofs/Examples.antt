@@ -1,13 +1,37 @@
--- What is wrong with a trace, worked out by the check: each character outside 20 to 7E, in order, with its place from 1. Assumes nothing.
+-- The worked table of a trace that is refused, by the check: the number, and the place of the character where it names one. Assumes nothing.
 use mathlib.Core.Path.{_≡_, refl}
-use mathlib.Core.List.{[], _∷_}
-use Rattle.settings.specs.Settings.{outside, traceFaults}
+use mathlib.Core.List.{List, [], _∷_, _++_}
+use lib.ListN.{replicate}
+use Prim.Native.Nat.{ℕ}
+use Rattle.refusals.specs.Refusals.{saidBy}
+use Rattle.settings.specs.Settings.{traceFaults}
+use Rattle.settings.proofs.Opened.{opened}
 
-pub each-with-its-place :
-    traceFaults (0x20 ∷ 0x1f ∷ 0x7e ∷ 0x7f ∷ 0x00 ∷ [])
-    ≡ record { place = 2; character = 0x1f }
-    ∷ record { place = 4; character = 0x7f }
-    ∷ record { place = 5; character = 0x00 }
-    ∷ []
-unfolding outside
-each-with-its-place = refl
+-- what is said of a trace: 0 where it passes
+abbrev said : List ℕ → List ℕ
+said characters = saidBy (0 ∷ []) (traceFaults characters)
+
+-- `03E5` and eleven spaces passes
+pub passes : said (0x30 ∷ 0x33 ∷ 0x45 ∷ 0x35 ∷ replicate 11 0x20) ≡ 0 ∷ []
+unfolding opened saidBy
+passes = refl
+
+-- 1F at 3 and 80 at 2: 20 at 2, as the earliest decides
+pub earliest : said (0x30 ∷ 0x80 ∷ 0x1f ∷ replicate 12 0x30) ≡ 20 ∷ 2 ∷ []
+unfolding opened saidBy
+earliest = refl
+
+-- fifteen spaces: 21, at no place
+pub fifteen-spaces : said (replicate 15 0x20) ≡ 21 ∷ []
+unfolding opened saidBy
+fifteen-spaces = refl
+
+-- fourteen spaces and 7F: 20 at 15
+pub spaces-and-7f : said (replicate 14 0x20 ++ (0x7f ∷ [])) ≡ 20 ∷ 15 ∷ []
+unfolding opened saidBy
+spaces-and-7f = refl
+
+-- fifteen spaces but 00 at 15: 5 at 15
+pub spaces-but-00 : said (replicate 14 0x20 ++ (0x00 ∷ [])) ≡ 5 ∷ 15 ∷ []
+unfolding opened saidBy
+spaces-but-00 = refl

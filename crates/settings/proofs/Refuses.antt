@@ -1,19 +1,60 @@
--- The answer to a call, as far as its label and its trace go, by the tests that led to it; and each row has its case's number. Assumes nothing.
+-- The answer to a call, as far as its label and its trace go, by the tests that led to it; and each row has its case's number and places. Assumes nothing.
 use mathlib.Core.Path.{_≡_, refl, sym, ap, _∙_}
-use mathlib.Core.Bool.{Bool, true, false, cond, not, _||_}
-use mathlib.Core.List.{List, [], _++_}
-use Prim.Native.Nat.{ℕ}
+use mathlib.Core.Bool.{Bool, true, false}
+use mathlib.Core.List.{List, [], _∷_, _++_}
+use Prim.Native.Nat.{ℕ, _+_}
 use native.Mathlib.Omega.{arith}
 use lib.ListN.{length}
 use borrow.Author.Tests.{eq-eqb, ne-eqb}
-use Rattle.refusals.specs.Refusals.{due, given, numberOf, answerNumber, says, answerOf}
+use Rattle.refusals.specs.Refusals.{Fault, due, no, noAt, given, rowsAt, traceNumber, tracePlaces, traceSays, numberOf, answerNumber, answerPlace, says, answerOf}
+use Rattle.refusals.specs.declared.TraceFault.{TraceFault}
+use Rattle.refusals.specs.declared.TraceFault.the-variants.{Below, Above, Spaces}
 use Rattle.refusals.specs.declared.Answer.{Answer}
 use Rattle.refusals.specs.declared.Answer.the-variants.{Done, Refused}
 use Rattle.refusals.specs.declared.Refusal.the-variants.{Label, Trace, State}
-use Rattle.refusals.proofs.Wrong.{due-none, due-false, number-none, Numbered, numbered-row, numbered-last}
+use Rattle.refusals.proofs.Wrong.{due-none, number-none, Numbered, numbered-row, numbered-last, numbered-both, numbered-rows}
 use Rattle.settings.specs.declared.Settings.{Settings}
-use Rattle.settings.specs.Settings.{labelRefused, traceRefused}
-use Rattle.settings.specs.Faults.{pathFaults, settingsFaults, aloneFaults, settingsCheck}
+use Rattle.settings.specs.declared.TraceAnswer.{TraceAnswer}
+use Rattle.settings.specs.declared.TraceAnswer.the-variants.{Passes, Wrong}
+use Rattle.settings.specs.Settings.{labelRefused, below, above, allSpaces, charactersFrom, traceFaults, judged}
+use Rattle.settings.specs.Faults.{pathFaults, settingsFaults, aloneFaults, settingsAnswer, settingsCheck, settingsPlace}
+
+-- ---- a trace's rows in a call's table
+
+rows-wrong : (fs : List (Fault TraceFault)) (t : TraceFault) → Wrong t ≡ judged fs → Refused (Trace t) ≡ answerOf (rowsAt [] Trace fs)
+unfolding judged rowsAt answerOf
+rows-wrong [] t e = let z : _≡_ {A = ℕ} 0 1 = cc in absurd (omega arith)
+rows-wrong (f ∷ fs) t e = let q : t ≡ f .why = cc in rw q refl
+
+rows-pass : (fs : List (Fault TraceFault)) → Passes ≡ judged fs → fs ≡ []
+unfolding judged
+rows-pass [] e = refl
+rows-pass (f ∷ fs) e = let z : _≡_ {A = ℕ} 0 1 = cc in absurd (omega arith)
+
+rows-none : (fs : List (Fault TraceFault)) → rowsAt [] Trace fs ≡ [] → fs ≡ []
+unfolding rowsAt
+rows-none [] e = refl
+rows-none (f ∷ fs) e = let z : _≡_ {A = ℕ} 0 1 = cc in absurd (omega arith)
+
+-- a trace that passes has nothing wrong with it
+pub passes-none : (trace : List ℕ) → Passes ≡ judged (traceFaults trace) → traceFaults trace ≡ []
+passes-none trace e = rows-pass (traceFaults trace) e
+
+-- ---- the numbers
+
+characters-numbered : (place : ℕ) (bs : List ℕ) → Numbered traceSays (charactersFrom place bs)
+unfolding charactersFrom traceSays traceNumber tracePlaces
+characters-numbered place [] = Numbered.none
+characters-numbered place (b ∷ bs) =
+    numbered-row traceSays (below b) (noAt 5 (place ∷ []) (Below place)) _ refl
+    (numbered-row traceSays (above b) (noAt 20 (place ∷ []) (Above place)) _ refl
+    (characters-numbered (place + 1) bs))
+
+pub trace-numbered : (trace : List ℕ) → Numbered traceSays (traceFaults trace)
+unfolding traceFaults traceSays traceNumber tracePlaces
+trace-numbered trace = numbered-both traceSays _ _ (characters-numbered 1 trace) (numbered-last traceSays (allSpaces trace) (no 21 Spaces) refl)
+
+-- ---- the answer to a call
 
 module _ (label : ℕ) (trace : List ℕ) where
   module _ (l : Bool) (is-l : l ≡ labelRefused label) where
@@ -21,18 +62,20 @@ module _ (label : ℕ) (trace : List ℕ) where
     unfolding pathFaults due answerOf
     wrong-label h = rw (← is-l, h) refl
 
-    module _ (l-no : l ≡ false) (t : Bool) (is-t : t ≡ traceRefused trace) where
-      pub wrong-trace : t ≡ true → Refused Trace ≡ answerOf (pathFaults label trace)
-      unfolding pathFaults due answerOf
-      wrong-trace h = rw (← is-l, l-no, ← is-t, h) refl
+    module _ (l-no : l ≡ false) (a : TraceAnswer) (is-a : a ≡ judged (traceFaults trace)) where
+      pub wrong-trace : (t : TraceFault) → a ≡ Wrong t → Refused (Trace t) ≡ answerOf (pathFaults label trace)
+      unfolding pathFaults due
+      wrong-trace t h = rw (← is-l, l-no) (rows-wrong (traceFaults trace) t (sym h ∙ is-a))
 
-      pub nothing-wrong : t ≡ false → Done ≡ answerOf (pathFaults label trace)
-      unfolding pathFaults due answerOf
-      nothing-wrong h = rw (← is-l, l-no, ← is-t, h) refl
+      pub nothing-wrong : a ≡ Passes → Done ≡ answerOf (pathFaults label trace)
+      unfolding pathFaults due rowsAt answerOf
+      nothing-wrong h = rw (← is-l, l-no, passes-none trace (sym h ∙ is-a)) refl
 
   pub path-numbered : Numbered says (pathFaults label trace)
-  unfolding pathFaults says numberOf
-  path-numbered = search (numbered-row, numbered-last)
+  unfolding pathFaults says numberOf traceSays
+  path-numbered =
+      numbered-row says (labelRefused label) (no 4 Label) _ refl
+      (numbered-rows traceSays says [] Trace (λ x n ps e. e) (traceFaults trace) (trace-numbered trace))
 
 -- the settings' answer is that of their label and trace
 pub settings-answer : (e : Settings) (r : Answer) → r ≡ answerOf (pathFaults (e .label) (e .trace)) → r ≡ answerOf (settingsFaults e)
@@ -44,64 +87,72 @@ unfolding settingsFaults
 settings-numbered e = path-numbered (e .label) (e .trace)
 
 -- settings are not refused by 8
-path-not-8 : (l t : Bool) → answerOf (given 4 Label l ++ given 5 Trace t) ≡ Refused State → ⊥
-unfolding due answerOf answerNumber numberOf
-path-not-8 true t h = let n : _≡_ {A = ℕ} 4 8 = ap answerNumber h in absurd (omega arith)
-path-not-8 false true h = let n : _≡_ {A = ℕ} 5 8 = ap answerNumber h in absurd (omega arith)
-path-not-8 false false h = let n : _≡_ {A = ℕ} 0 8 = ap answerNumber h in absurd (omega arith)
+trace-not-8 : (t : TraceFault) → traceNumber t ≡ 8 → ⊥
+unfolding traceNumber
+trace-not-8 (Below p) h = absurd (omega arith)
+trace-not-8 (Above p) h = absurd (omega arith)
+trace-not-8 Spaces h = absurd (omega arith)
+
+path-not-8 : (l : Bool) (fs : List (Fault TraceFault)) → answerOf (given 4 Label l ++ rowsAt [] Trace fs) ≡ Refused State → ⊥
+unfolding due rowsAt answerOf answerNumber numberOf
+path-not-8 true fs h = let n : _≡_ {A = ℕ} 4 8 = ap answerNumber h in absurd (omega arith)
+path-not-8 false [] h = let n : _≡_ {A = ℕ} 0 8 = ap answerNumber h in absurd (omega arith)
+path-not-8 false (f ∷ fs) h = trace-not-8 (f .why) (ap answerNumber h)
 
 pub settings-not-8 : (e : Settings) → answerOf (settingsFaults e) ≡ Refused State → ⊥
 unfolding settingsFaults pathFaults
-settings-not-8 e = path-not-8 (labelRefused (e .label)) (traceRefused (e .trace))
+settings-not-8 e = path-not-8 (labelRefused (e .label)) (traceFaults (e .trace))
 
 -- settings that no number refuses: neither their label nor their trace is
 pub fine-label : (e : Settings) → settingsFaults e ≡ [] → labelRefused (e .label) ≡ false
 unfolding settingsFaults pathFaults
 fine-label e h = due-none (labelRefused (e .label)) _ _ h .0
 
-pub fine-trace : (e : Settings) → settingsFaults e ≡ [] → traceRefused (e .trace) ≡ false
+pub fine-trace : (e : Settings) → settingsFaults e ≡ [] → traceFaults (e .trace) ≡ []
 unfolding settingsFaults pathFaults
-fine-trace e h = due-false (traceRefused (e .trace)) _ (due-none (labelRefused (e .label)) _ _ h .1)
+fine-trace e h = rows-none (traceFaults (e .trace)) (due-none (labelRefused (e .label)) _ _ h .1)
 
 -- and where neither is, nothing is wrong
-pub path-fine : (label : ℕ) (trace : List ℕ) → labelRefused label ≡ false → traceRefused trace ≡ false → pathFaults label trace ≡ []
-unfolding pathFaults due
+pub path-fine : (label : ℕ) (trace : List ℕ) → labelRefused label ≡ false → traceFaults trace ≡ [] → pathFaults label trace ≡ []
+unfolding pathFaults due rowsAt
 path-fine label trace l t = rw (l, t) refl
 
 -- ---- settings alone
 
 module _ (label : ℕ) (characters : List ℕ) where
   -- fifteen characters are refused as in every call
-  pub alone-path : length characters ≡ 15 → aloneFaults label characters ≡ pathFaults label characters
-  unfolding aloneFaults pathFaults
-  alone-path h = rw (eq-eqb (length characters) 15 h) refl
+  pub check-path : length characters ≡ 15 → settingsAnswer label characters ≡ answerOf (pathFaults label characters)
+  unfolding settingsAnswer aloneFaults pathFaults due
+  check-path h = rw (eq-eqb (length characters) 15 h) refl
 
-  pub check-path : length characters ≡ 15 → settingsCheck label characters ≡ answerNumber (answerOf (pathFaults label characters))
-  unfolding settingsCheck
-  check-path h = rw (alone-path h) refl
+  pub alone-answered : (r : Answer) → r ≡ answerOf (pathFaults label characters) → length characters ≡ 15 → r ≡ settingsAnswer label characters
+  alone-answered r e h = rw (check-path h) e
 
-  pub alone-answered : (r : Answer) → r ≡ answerOf (pathFaults label characters) → length characters ≡ 15 → r ≡ answerOf (aloneFaults label characters)
-  alone-answered r e h = rw (alone-path h) e
+  -- what is answered has the check's number, and names its place
+  module _ (a : Answer) (is-a : a ≡ settingsAnswer label characters) where
+    pub check-number : (n : ℕ) → n ≡ answerNumber a → n ≡ settingsCheck label characters
+    unfolding settingsCheck
+    check-number n h = h ∙ ap answerNumber is-a
 
-  -- the number of what is answered is the check's
-  pub check-number : (a : Answer) (n : ℕ) → a ≡ answerOf (aloneFaults label characters) → n ≡ answerNumber a → n ≡ settingsCheck label characters
-  unfolding settingsCheck
-  check-number a n e h = h ∙ ap answerNumber e
+    pub check-place : (p : ℕ) → p ≡ answerPlace a → p ≡ settingsPlace label characters
+    unfolding settingsPlace
+    check-place p h = h ∙ ap answerPlace is-a
 
   module _ (long : length characters ≡ 15 → ⊥) (l : Bool) (is-l : l ≡ labelRefused label) where
-    pub alone-label : l ≡ true → Refused Label ≡ answerOf (aloneFaults label characters)
-    unfolding aloneFaults due answerOf
+    pub alone-label : l ≡ true → Refused Label ≡ settingsAnswer label characters
+    unfolding settingsAnswer aloneFaults due answerOf
     alone-label h = rw (← is-l, h) refl
 
-    pub alone-length : l ≡ false → Refused Trace ≡ answerOf (aloneFaults label characters)
-    unfolding aloneFaults due answerOf
+    pub alone-length : l ≡ false → Refused (Trace (Below 0)) ≡ settingsAnswer label characters
+    unfolding settingsAnswer aloneFaults due answerOf
     alone-length h = rw (← is-l, h, ne-eqb (length characters) 15 long) refl
 
--- the check gives the number by which the settings are refused in every call, and 0 exactly where no number refuses them
+-- the check gives what every call answers to the settings, as far as they go, and 0 exactly where no number refuses them
 module _ (e : Settings) (fifteen : length (e .trace) ≡ 15) where
-  pub check-answer : settingsCheck (e .label) (e .trace) ≡ answerNumber (answerOf (settingsFaults e))
+  pub check-answer : settingsAnswer (e .label) (e .trace) ≡ answerOf (settingsFaults e)
   unfolding settingsFaults
   check-answer = check-path (e .label) (e .trace) fifteen
 
   pub check-fine : settingsCheck (e .label) (e .trace) ≡ 0 → settingsFaults e ≡ []
-  check-fine h = number-none (settingsFaults e) (sym check-answer ∙ h)
+  unfolding settingsCheck
+  check-fine h = number-none (settingsFaults e) (ap answerNumber (sym check-answer) ∙ h)

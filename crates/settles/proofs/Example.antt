@@ -21,7 +21,7 @@ run =
     record {
       box = λ k. replicate 18 k;
       ask = λ n. cond (eqb n 4) Increment Nothing;
-      settings = record { label = 0x12; trace = replicate 15 0x20; flags = record { monitored = true; rdi = true; ssf = true; ais = true } };
+      settings = record { label = 0x12; trace = replicate 15 0x30; flags = record { monitored = true; rdi = true; ssf = true; ais = true } };
       source = record { offset = 17; wait = 3 };
       state = freshSink;
       unit = replicate 21 0;

@@ -1,17 +1,17 @@
 -- The monitor: from any state, 63 containers of one source settle it, with a label that fits the expected one and the expected trace. Assumes nothing.
 use mathlib.Core.Path.{_≡_, refl, sym, _∙_}
 use mathlib.Core.Bool.{true, false, true≢false}
-use mathlib.Core.List.{List, _∷_}
+use mathlib.Core.List.{List, [], _∷_}
 use Prim.Native.Nat.{ℕ, _+_, _%_, _<_, _≤_}
 use native.Mathlib.Omega.{arith}
 use lib.Bits.{xor-self}
 use lib.Count.{ones}
-use lib.Dec.{eqb, ltb}
+use lib.Dec.{eqb}
 use lib.ListN.{length}
-use borrow.Author.Tests.{eq-eqb, lt-ltb, ne-eqb, ltb-false}
+use borrow.Author.Tests.{eq-eqb, lt-ltb, ne-eqb}
 use Rattle.laws.proofs.Tests.{by-test, or-false}
-use Rattle.settings.specs.Settings.{labelRefused, outside, traceRefused}
-use Rattle.settings.proofs.Laws.{by-characters}
+use Rattle.settings.specs.Settings.{labelRefused, traceFaults}
+use Rattle.settings.proofs.Passes.{Character, by-characters}
 use Rattle.trace_message.specs.Message.{topBitsClear}
 use Rattle.trace_message.proofs.Alike.{same-alike}
 use Rattle.overhead.specs.Violations.{violationsOf, keptOf}
@@ -34,18 +34,16 @@ use Rattle.settles_monitor.proofs.Traces as traces
 -- ---- settings
 
 -- characters 20 to 7E have top bit 0
-clear-more : (b : ℕ) (bs : List ℕ) → outside b ≡ false → topBitsClear bs ≡ true → topBitsClear (b ∷ bs) ≡ true
-unfolding outside topBitsClear
-clear-more b bs o h =
-    let q = or-false (ltb b 0x20) (ltb 0x7e b) o in
-    rw (lt-ltb b 0x80 (omega (arith, ltb-false 0x7e b (q .1)))) h
+clear-more : (b : ℕ) (bs : List ℕ) → Character b → topBitsClear bs ≡ true → topBitsClear (b ∷ bs) ≡ true
+unfolding topBitsClear
+clear-more b bs c h = rw (lt-ltb b 0x80 (omega (arith, c .most))) h
 
-clear-of : (cs : List ℕ) → traceRefused cs ≡ false → topBitsClear cs ≡ true
+clear-of : (cs : List ℕ) → traceFaults cs ≡ [] → topBitsClear cs ≡ true
 unfolding topBitsClear
 clear-of cs h = by-characters (λ (l : List ℕ). topBitsClear l ≡ true) refl clear-more cs h
 
 -- settings that no number refuses, and a label that fits them
-pub setting : (sent : ℕ) (e : Settings) → fits sent (e .label) ≡ true → labelRefused (e .label) ≡ false → traceRefused (e .trace) ≡ false → length (e .trace) ≡ 15
+pub setting : (sent : ℕ) (e : Settings) → fits sent (e .label) ≡ true → labelRefused (e .label) ≡ false → traceFaults (e .trace) ≡ [] → length (e .trace) ≡ 15
     → Setting sent e
 unfolding labelRefused
 setting sent e f l t n =

@@ -1,11 +1,11 @@
 -- The order in which a call of the sink is refused, as one table, computed by the check from the definitions. Assumes nothing.
 use mathlib.Core.Path.{_≡_, refl}
-use mathlib.Core.List.{List, [], _∷_, map}
+use mathlib.Core.List.{List, [], _∷_, _++_, map}
 use Prim.Native.Nat.{ℕ}
 use lib.ListN.{replicate}
 use Rattle.settings.specs.Flags.{flagsOf}
 use Rattle.settings.specs.declared.Settings.{Settings}
-use Rattle.refusals.specs.Refusals.{answerNumber, answerOf}
+use Rattle.refusals.specs.Refusals.{answerSays, answerOf}
 use Rattle.shape.specs.Shape.{au4}
 use Rattle.pointer_rules.specs.Rules.{noRun}
 use Rattle.pointer_state.specs.declared.State.the-variants.{Normal}
@@ -25,7 +25,7 @@ standing offset held without =
       total = 0;
     }
 
--- "Sink: 8, 4, 5, 1, 3": each row has its own fault and all those after it in that order, the last none
+-- "Sink: 8, 4, 5, 1, 3", with 20 and 21 "in the place of 5": each row has its own fault and all those after it in that order, the last none
 pub record Row : Type 0 where
   pub state : State
   pub settings : Settings
@@ -46,15 +46,17 @@ rows =
     ∷ row (standing 782 3 48) 0x01 (replicate 15 0x1f) 2357 2348 2348
     ∷ row (standing 782 3 48) 0x01 (replicate 15 0x7f) 2357 2348 2348
     ∷ row (standing 782 3 48) 0x01 (replicate 15 0x20) 2357 2348 2348
+    ∷ row (standing 782 3 48) 0x01 (replicate 14 0x20 ++ (0x21 ∷ [])) 2357 2348 2348
     ∷ row (standing 782 3 48) 0x01 (replicate 15 0x7e) 2359 2348 2348
     ∷ row (standing 782 3 48) 0x01 (replicate 15 0x7e) 2358 2348 2349
     ∷ row (standing 782 3 48) 0x01 (replicate 15 0x7e) 2358 2349 2350
     ∷ row (standing 782 3 48) 0x01 (replicate 15 0x7e) 2358 2349 2349
     ∷ []
 
-pub answered : Row → ℕ
-answered r = answerNumber (answerOf (sinkFaults au4 (r .state) (r .settings) (r .unit) (r .held) (r .done)))
+pub answered : Row → List ℕ
+answered r = answerSays (answerOf (sinkFaults au4 (r .state) (r .settings) (r .unit) (r .held) (r .done)))
 
-pub sink-order : map answered rows ≡ 8 ∷ 8 ∷ 8 ∷ 4 ∷ 4 ∷ 5 ∷ 5 ∷ 1 ∷ 1 ∷ 3 ∷ 3 ∷ 0 ∷ []
-unfolding opened standing row rows answered
+pub sink-order : map answered rows ≡
+    (8 ∷ []) ∷ (8 ∷ []) ∷ (8 ∷ []) ∷ (4 ∷ []) ∷ (4 ∷ []) ∷ (5 ∷ 1 ∷ []) ∷ (20 ∷ 1 ∷ []) ∷ (21 ∷ []) ∷ (1 ∷ []) ∷ (1 ∷ []) ∷ (3 ∷ []) ∷ (3 ∷ []) ∷ (0 ∷ []) ∷ []
+unfolding answerSays opened standing row rows answered
 sink-order = refl

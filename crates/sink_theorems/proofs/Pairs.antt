@@ -16,11 +16,11 @@ pub causes : List SinkCall → SinkCall → Causes
 unfolding opened
 causes calls c = sinkCalled of-shape.au4 (reached of-shape.au4 calls) c .received .causes
 
--- label 12 and a trace of spaces are expected, and everything is reported
+-- label 12 and a trace of fifteen zeros are expected, and everything is reported
 pub feeding : List ℕ → SinkCall
 feeding unit =
     record {
-      settings = record { label = 0x12; trace = replicate 15 0x20; flags = record { monitored = true; rdi = true; ssf = true; ais = true } };
+      settings = record { label = 0x12; trace = replicate 15 0x30; flags = record { monitored = true; rdi = true; ssf = true; ais = true } };
       unit = unit;
       held = replicate 2349 0;
       done = replicate 2349 0;
@@ -45,7 +45,7 @@ unfolding feeding of-check.message of-check.startByte of-check.check7 of-contain
 unit-at k =
     feeding
     ((0x68 ∷ replicate 8 0)
-    ++ of-container.containerOf 261 (getD (of-check.message (replicate 15 0x20)) (k % 16) 0 ∷ 0 ∷ 0x13 ∷ 0x08 ∷ replicate 5 0) (replicate 2340 0))
+    ++ of-container.containerOf 261 (getD (of-check.message (replicate 15 0x30)) (k % 16) 0 ∷ 0 ∷ 0x13 ∷ 0x08 ∷ replicate 5 0) (replicate 2340 0))
 
 -- n units, from place k of the message on
 pub units-from : ℕ → ℕ → List SinkCall

@@ -2,17 +2,18 @@
 use mathlib.Core.Path.{_≡_, refl, sym, ap, _∙_}
 use mathlib.Core.Bool.{Bool, true, false, not, _||_}
 use mathlib.Core.List.{List, [], _∷_, _++_}
-use Prim.Native.Nat.{ℕ, _<_}
+use Prim.Native.Nat.{ℕ}
 use native.Mathlib.Omega.{arith}
 use lib.Dec.{eqb}
 use lib.ListN.{length}
-use Rattle.settings.specs.Faults.{settingsFaults, settingsCheck}
+use Rattle.settings.specs.Faults.{settingsFaults, settingsAnswer}
 use Rattle.settings.proofs.Refuses.{settings-not-8, check-answer}
 use Rattle.refusals.specs.Refusals.{Fault, due, given, answerOf, answerNumber, numberOf}
 use Rattle.refusals.specs.declared.Refusal.{Refusal}
 use Rattle.refusals.specs.declared.Refusal.the-variants as wrong
 use Rattle.refusals.specs.declared.Answer.the-variants.{Done, Refused}
-use Rattle.refusals.proofs.Wrong.{outcome-by, outcome-answer, number-first}
+use Rattle.refusals.proofs.Wrong.{outcome-by, outcome-answer}
+use Rattle.refusals.proofs.Joined.{joined-refused}
 use Rattle.shape.specs.Shape.{unitLength}
 use Rattle.shape.specs.declared.Shape.{Shape}
 use Rattle.sink.specs.Sink.{ReceivedOutcome, sinkOutOfRange, sinkFaults, told, refusing, sink}
@@ -70,11 +71,8 @@ not-8 s state c h e =
 
 -- ---- settings that a host has had checked before any call
 
--- EVERY CALL WITH SETTINGS THAT THE CHECK REFUSES IS REFUSED BY ITS NUMBER, whatever the unit and the buffers; only a state out of range comes before
+-- EVERY CALL WITH SETTINGS THAT THE CHECK REFUSES IS REFUSED AS IT SAYS, with its number and its place, whatever the unit and the buffers; only a state out of range comes before
 pub checked-refused : (s : Shape) (state : State) (c : SinkCall) → length (c .settings .trace) ≡ 15 → sinkOutOfRange s state ≡ false
-    → 0 < settingsCheck (c .settings .label) (c .settings .trace)
-    → answerNumber (sinkCalled s state c .received .answer) ≡ settingsCheck (c .settings .label) (c .settings .trace)
+    → (x : Refusal) → settingsAnswer (c .settings .label) (c .settings .trace) ≡ Refused x → sinkCalled s state c .received .answer ≡ Refused x
 unfolding sinkFaults due
-checked-refused s state c fifteen inside some =
-    let e = c .settings in
-    rw (answer-is s state c, inside, check-answer e fifteen) (number-first (settingsFaults e) _ (rw (check-answer e fifteen) at some))
+checked-refused s state c fifteen inside x e = rw (answer-is s state c, inside) (joined-refused (settingsFaults (c .settings)) _ x (sym (check-answer (c .settings) fifteen) ∙ e))

@@ -1,6 +1,6 @@
 -- `listing::refusal_line` meets its contract: three pieces in a row. Assumes nothing.
-use borrow.Author.Needs.{needs}
 use Rattle.listing.proofs.Refusing.{refusal-written}
+use borrow.Author.Needs.{needs}
 use Rattle.listing.proofs.refusal_line.Statement.{statement}
 use Rattle.listing.proofs.refusal_line.Tie as tie
 
@@ -9,6 +9,9 @@ number-requires c κs = search needs
 
 decimal-requires : tie.Need-decimal-requires
 decimal-requires c κs = search needs
+
+named-requires : tie.Need-named-requires
+named-requires c κs = search needs
 
 places-requires : tie.Need-places-requires
 places-requires c κs = search needs
@@ -25,4 +28,11 @@ returns c = search refusal-written
 pub refusal-line-spec : {M : Type 1} → statement M
 refusal-line-spec =
     tie.close
-    (tie.spec number-requires decimal-requires places-requires byte-requires same-length returns)
+    (tie.spec
+    number-requires
+    decimal-requires
+    named-requires
+    places-requires
+    byte-requires
+    same-length
+    returns)

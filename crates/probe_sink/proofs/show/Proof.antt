@@ -7,6 +7,9 @@ use Rattle.probe_sink.proofs.show.Tie as tie
 number-requires : tie.Need-number-requires
 number-requires c κs = search needs
 
+place-requires : tie.Need-place-requires
+place-requires c κs = search needs
+
 plain-of-requires : tie.Need-plain-of-requires
 plain-of-requires c κs = search needs
 
@@ -14,4 +17,4 @@ returns : tie.Need-returns
 returns c = search shown-is fits 20000
 
 pub show-spec : {M : Type 1} → statement M
-show-spec = tie.close (tie.spec number-requires plain-of-requires returns)
+show-spec = tie.close (tie.spec number-requires place-requires plain-of-requires returns)

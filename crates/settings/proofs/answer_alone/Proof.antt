@@ -1,6 +1,6 @@
 -- `settings::answer_alone` meets its contract: fifteen characters are answered as in every call, and others by the label first. Assumes nothing.
-use borrow.Author.Needs.{needs}
 use Rattle.settings.proofs.Refuses.{alone-answered, alone-label, alone-length}
+use borrow.Author.Needs.{needs}
 use Rattle.settings.proofs.answer_alone.Statement.{statement}
 use Rattle.settings.proofs.answer_alone.Tie as tie
 
