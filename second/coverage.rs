@@ -80,6 +80,7 @@ pub const NAMES: &[&str] = &[
     "message.stray", "message.stray-ends-a-run", "message.wrong", "message.wrong-ends-a-run",
     "message.good-first", "message.good-second", "message.good-third", "message.good-run-stops-at-3",
     "message.good-other-after-1-or-2", "message.good-other-after-3",
+    "message.good-of-spaces", "message.good-not-of-20-to-7E",
     "count.to-0", "count.47-to-0", "count.48-to-0", "count.stops-at-48",
     "trace.accepted-first", "trace.accepted-again", "trace.accepted-other",
     "dTIM.set-by-a-message", "dTIM.cleared", "dTIM.stays-by-a-message",
@@ -117,7 +118,7 @@ pub const NAMES: &[&str] = &[
     "catalogue.refused-9", "catalogue.refused-10", "catalogue.refused-11", "catalogue.refused-4",
     "catalogue.refused-5", "catalogue.refused-20", "catalogue.refused-21", "catalogue.refused-12", "catalogue.refused-13",
     "catalogue.refused-5-in-a-later-record", "catalogue.refused-20-in-a-later-record",
-    "catalogue.refused-21-in-a-later-record",
+    "catalogue.refused-21-in-a-later-record", "catalogue.refused-character-in-a-record-above-99",
     "catalogue.refused-10-before-5", "catalogue.refused-10-before-20", "catalogue.refused-10-before-21",
     "catalogue.refused-11-before-5", "catalogue.refused-11-before-20", "catalogue.refused-11-before-21",
     "catalogue.refused-4-before-5", "catalogue.refused-4-before-20", "catalogue.refused-4-before-21",
@@ -549,6 +550,12 @@ fn good_message(before: &Sink, after: &Sink, note: Note) {
         1 | 2 => "message.good-other-after-1-or-2",
         _ => "message.good-other-after-3",
     });
+    // A trace that comes is not refused.
+    match number_for(&after.characters) {
+        0 => {}
+        21 => note("message.good-of-spaces"),
+        _ => note("message.good-not-of-20-to-7E"),
+    }
     note(match before.without {
         MOST_WITHOUT => "count.48-to-0",
         47 => "count.47-to-0",
@@ -791,6 +798,7 @@ pub fn checked(answer: &Result<usize, Refusal>, bytes: &[u8], note: Note) {
             (number == 5 && apart, "catalogue.refused-5-in-a-later-record"),
             (number == 20 && apart, "catalogue.refused-20-in-a-later-record"),
             (number == 21 && apart, "catalogue.refused-21-in-a-later-record"),
+            (places.len() == 2 && places[0] > 99, "catalogue.refused-character-in-a-record-above-99"),
             (number == 10 && in_trace == 5, "catalogue.refused-10-before-5"),
             (number == 10 && in_trace == 20, "catalogue.refused-10-before-20"),
             (number == 10 && in_trace == 21, "catalogue.refused-10-before-21"),

@@ -1041,6 +1041,9 @@ mod tests {
         /// The bytes of a message, some of them wrong.
         fn message(&mut self) -> [u8; 16] {
             let mut trace = self.trace();
+            if self.once_in(8) {
+                trace = self.of(&[[0x20; 15], [0x1F; 15]]);
+            }
             if self.once_in(6) {
                 trace[self.below(15) as usize] |= 0x80;
             }

@@ -238,6 +238,19 @@ fn messages_and_the_count_to_48(shape: Shape) {
     assert_eq!((s.without, s.message_run), (0, 1));
 }
 
+over_both!(a_trace_that_comes_is_not_refused);
+fn a_trace_that_comes_is_not_refused(shape: Shape) {
+    for trace in [[0x20; 15], [0x00; 15], [0x7F; 15]] {
+        let mut s = at_0(0);
+        for j1 in message(&trace).repeat(3) {
+            assert!(!s.tim);
+            feed(shape, &mut s, &expects(&padded(b"03E5")), j1, 0x12, 0);
+        }
+        assert!(s.tim);
+        assert_eq!(s.accepted_trace, Some(trace));
+    }
+}
+
 over_both!(sink_refusals_come_in_the_order_8_4_trace_1_3);
 fn sink_refusals_come_in_the_order_8_4_trace_1_3(shape: Shape) {
     let (last, size, full) = (shape.last_value(), shape.container(), shape.unit());
