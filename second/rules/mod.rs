@@ -18,6 +18,6 @@ mod word;
 // A program that takes these as a module need not use all of them.
 #[allow(unused_imports)]
 pub use self::{
-    catalogue::*, container::*, cut::*, monitor::*, parity::*, pointer::*, refusal::*, shape::*, sink::*, trace::*, unit::*,
-    word::*,
+    catalogue::*, container::*, cut::*, monitor::*, parity::*, pointer::*, refusal::*, shape::*, sink::*, trace::*,
+    unit::*, word::*,
 };
