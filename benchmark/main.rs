@@ -230,7 +230,7 @@ fn sinks(what: &str, run: &Run) {
                     black_box(answer);
                     s = after;
                 }
-                Err(number) => panic!("refused {number}"),
+                Err(refusal) => panic!("refused {refusal}"),
             }
         }
         s

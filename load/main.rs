@@ -173,10 +173,17 @@ fn told(s: &Shown) -> String {
     text
 }
 
+/// The number alone of a refusal that the second program's bench printed: the proved calls are not asked for the places here.
+fn numbered(line: &str) -> &str {
+    let number = line.find("refused ").map_or(line.len(), |at| at + "refused ".len());
+    let length = line[number..].find(' ').unwrap_or(line.len() - number);
+    &line[..number + length]
+}
+
 /// The same of a line that the second program's bench printed.
 fn printed(line: &str) -> String {
     let mut words = Vec::new();
-    for word in line.split_whitespace() {
+    for word in numbered(line).split_whitespace() {
         if word.starts_with("hb=") || word.starts_with("db=") {
             continue;
         }
@@ -276,7 +283,7 @@ impl Load {
             card.queue.drain(..usize::from(ended));
             answer = if number != 0 { format!("unit refused {number}") } else { format!("unit ended={ended} off={}", after.0) };
         }
-        let words: Vec<&str> = said.split_whitespace().filter(|w| !w.starts_with("word=") && !w.starts_with("fnv=")).collect();
+        let words: Vec<&str> = numbered(said).split_whitespace().filter(|w| !w.starts_with("word=") && !w.starts_with("fnv=")).collect();
         self.same("the source's answer", words.join(" "), answer);
         self.same("the container source's state", (b.containers.place, b.containers.parity), card.containers);
         self.same("the unit source's state", (b.units.offset, b.units.wait), card.units);
@@ -332,10 +339,10 @@ impl Load {
         let shown = proved::sink(proved::between_fields_0(&given), settings(e), &unit, &mut held, &mut done);
         self.states += 1;
         match second::sink(AU4, &s, e, &b.line, &mut held_2, &mut done_2, &mut |_| {}) {
-            Err(number) => {
-                self.same("the refusal of any state", number, shown.number);
+            Err(refusal) => {
+                self.same("the refusal of any state", refusal.number, shown.number);
                 self.same("the state after its refusal", given, shown.state);
-                self.refused_8 += u64::from(number == 8);
+                self.refused_8 += u64::from(refusal.number == 8);
             }
             Ok((after, answer)) => {
                 self.same("the answer to any state", 0, shown.number);

@@ -282,9 +282,9 @@ impl Bench {
                 self.given = Given { label, violations, remote, ..self.given };
                 self.sent_trace = trace;
                 let refused = self.sent_refused();
-                coverage::sent(refused, &trace, violations, note);
-                if let Some(number) = refused {
-                    return format!("tx refused {number}\n");
+                coverage::sent(refused.as_ref(), &trace, violations, note);
+                if let Some(refusal) = refused {
+                    return format!("tx refused {refusal}\n");
                 }
             }
             Command::Rx { label, trace, flags } => {
@@ -299,9 +299,9 @@ impl Bench {
                     ais_reported: flags & 8 != 0,
                 };
                 let refused = self.expected_refused();
-                coverage::expected(refused, &trace, note);
-                if let Some(number) = refused {
-                    return format!("rx refused {number}\n");
+                coverage::expected(refused.as_ref(), &trace, note);
+                if let Some(refusal) = refused {
+                    return format!("rx refused {refusal}\n");
                 }
             }
             Command::Src(asked) => return self.source(asked, note),
@@ -319,7 +319,7 @@ impl Bench {
             Command::Cat(ref bytes) => return catalogue(bytes, note),
             Command::Lookup(circuit, ref bytes) => return lookup(circuit, bytes, note),
             Command::List(ref bytes) => {
-                note(if second::catalogue_check(bytes).is_ok() { "list.listed" } else { "list.refused" });
+                coverage::listed(second::catalogue_check(bytes).as_ref().err(), note);
                 // Characters from 20 to 7E only.
                 return String::from_utf8_lossy(&second::listing(bytes)).into_owned();
             }
@@ -340,9 +340,9 @@ impl Bench {
         String::new()
     }
 
-    /// The number by which every call with these settings will be refused: the
-    /// one by which a fresh source refuses that lacks nothing else.
-    fn sent_refused(&self) -> Option<u8> {
+    /// How every call with these settings will be refused: as a fresh source
+    /// refuses that lacks nothing else.
+    fn sent_refused(&self) -> Option<Refusal> {
         let payload = vec![0x00; AU4.payload()];
         let mut container = vec![0x00; AU4.container()];
         let source = ContainerSource::fresh();
@@ -350,7 +350,7 @@ impl Bench {
     }
 
     /// The same of the sink's settings.
-    fn expected_refused(&self) -> Option<u8> {
+    fn expected_refused(&self) -> Option<Refusal> {
         let unit = vec![0x00; AU4.unit()];
         let (mut held, mut done) = (vec![0x00; AU4.container()], vec![0x00; AU4.container()]);
         second::sink(AU4, &Sink::fresh(), &self.expected, &unit, &mut held, &mut done, &mut |_| {}).err()
@@ -363,14 +363,14 @@ impl Bench {
             let mut container = vec![0x00; AU4.container()];
             let bytes = payload(self.seed);
             let made = second::container_source(AU4, self.containers, self.given, &self.sent_trace, &bytes, &mut container);
-            coverage::container_asked(made.err(), self.queue.len(), note);
+            coverage::container_asked(made.as_ref().err(), &self.given, &self.sent_trace, self.queue.len(), note);
             match made {
                 Ok(after) => {
                     self.containers = after;
                     self.queue.push_back(container);
                     self.seed = self.seed.wrapping_add(1);
                 }
-                Err(number) => return format!("container refused {number}\n"),
+                Err(refusal) => return format!("container refused {refusal}\n"),
             }
         }
         self.line.resize(AU4.unit(), 0x00);
@@ -387,9 +387,9 @@ impl Bench {
                     after.offset
                 )
             }
-            Err(number) => {
+            Err(refusal) => {
                 note("unit.refused-7");
-                format!("unit refused {number}\n")
+                format!("unit refused {refusal}\n")
             }
         }
     }
@@ -399,10 +399,10 @@ impl Bench {
         let fed = second::sink(AU4, &self.sink, &self.expected, &self.line, &mut self.held, &mut self.done, note);
         let (after, answer) = match fed {
             Ok(both) => both,
-            Err(number) => {
+            Err(refusal) => {
                 let lengths = [self.line.len(), self.held.len(), self.done.len()];
-                coverage::refused(number, &self.expected, lengths, note);
-                return format!("refused {number}\n");
+                coverage::refused(&refusal, &self.expected, lengths, note);
+                return format!("refused {refusal}\n");
             }
         };
         self.sink = after;
@@ -457,30 +457,26 @@ impl Bench {
         let mut into = vec![0xEE; AU4.payload()];
         match second::payload_call(AU4, container, ais, &mut into) {
             Ok(()) => format!("payload fnv={:08X}\n", fnv(&into)),
-            Err(number) => format!("payload refused {number}\n"),
+            Err(refusal) => format!("payload refused {refusal}\n"),
         }
     }
 }
 
-fn places(refusal: &Refusal) -> String {
-    refusal.places.iter().map(|place| format!(" {place}")).collect()
-}
-
 fn catalogue(bytes: &[u8], note: Note) -> String {
     let answer = second::catalogue_check(bytes);
-    coverage::checked(&answer, note);
+    coverage::checked(&answer, bytes, note);
     match answer {
         Ok(count) => format!("cat ok {count}\n"),
-        Err(refusal) => format!("cat refused {}{}\n", refusal.number, places(&refusal)),
+        Err(refusal) => format!("cat refused {refusal}\n"),
     }
 }
 
 fn lookup(circuit: u32, bytes: &[u8], note: Note) -> String {
     let answer = second::lookup(bytes, circuit);
-    coverage::looked_up(answer.as_ref().err().map(|refusal| refusal.number), note);
+    coverage::looked_up(answer.as_ref().err(), note);
     match answer {
         Ok(record) => format!("found {:02X} {} {}\n", record.label, hex(&record.trace), record.flags),
-        Err(refusal) => format!("lookup refused {}{}\n", refusal.number, places(&refusal)),
+        Err(refusal) => format!("lookup refused {refusal}\n"),
     }
 }
 

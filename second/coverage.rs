@@ -9,10 +9,10 @@ use super::rules::counts::{
     LAST_PLACE, MOST_ALARM_WORDS, MOST_ALIKE_WORDS, MOST_ENABLED_WORDS, MOST_EQUAL, MOST_INVALID_WORDS, MOST_WITHOUT,
 };
 use super::rules::{
-    adjustment, inverted, Answer, Expected, Overhead, Place, Pointer, PointerReader, Refusal, Shape, Sink, Taken,
-    Watch, Word, AU4,
+    adjustment, inverted, trace_fault, Answer, Expected, Given, Overhead, Place, Pointer, PointerReader, Refusal, Shape,
+    Sink, Taken, Watch, Word, AU4, RECORD_LENGTH,
 };
-use std::collections::HashMap;
+use std::collections::{HashMap, HashSet};
 use std::fmt::Write as _;
 
 /// Told the name of each case of a rule that is met, so that a test can ask
@@ -80,6 +80,7 @@ pub const NAMES: &[&str] = &[
     "message.stray", "message.stray-ends-a-run", "message.wrong", "message.wrong-ends-a-run",
     "message.good-first", "message.good-second", "message.good-third", "message.good-run-stops-at-3",
     "message.good-other-after-1-or-2", "message.good-other-after-3",
+    "message.good-of-spaces", "message.good-not-of-20-to-7E",
     "count.to-0", "count.47-to-0", "count.48-to-0", "count.stops-at-48",
     "trace.accepted-first", "trace.accepted-again", "trace.accepted-other",
     "dTIM.set-by-a-message", "dTIM.cleared", "dTIM.stays-by-a-message",
@@ -98,27 +99,56 @@ pub const NAMES: &[&str] = &[
     "unsettled.no-label-accepted", "unsettled.no-trace-accepted", "unsettled.by-dRDI-alone",
     "unsettled.by-the-expected-trace-alone", "unsettled.by-the-expected-label-alone",
     // Answers of the calls
-    "container.made", "container.refused-4", "container.refused-5", "container.refused-6",
+    "container.made", "container.refused-4", "container.refused-5", "container.refused-20", "container.refused-21",
+    "container.refused-6",
+    "container.refused-4-before-5", "container.refused-4-before-20", "container.refused-4-before-21",
+    "container.refused-4-before-6",
+    "container.refused-5-before-6", "container.refused-20-before-6", "container.refused-21-before-6",
     "container.refused-second",
     "unit.made", "unit.refused-7",
     "sink.normal", "sink.alarm", "sink.lost",
-    "sink.refused-4", "sink.refused-5", "sink.refused-1", "sink.refused-3",
-    "sink.refused-4-before-5", "sink.refused-4-before-1", "sink.refused-4-before-3",
-    "sink.refused-5-before-1", "sink.refused-5-before-3", "sink.refused-1-before-3",
+    "sink.refused-4", "sink.refused-5", "sink.refused-20", "sink.refused-21", "sink.refused-1", "sink.refused-3",
+    "sink.refused-4-before-5", "sink.refused-4-before-20", "sink.refused-4-before-21",
+    "sink.refused-4-before-1", "sink.refused-4-before-3",
+    "sink.refused-5-before-1", "sink.refused-20-before-1", "sink.refused-21-before-1",
+    "sink.refused-5-before-3", "sink.refused-20-before-3", "sink.refused-21-before-3", "sink.refused-1-before-3",
     "sink.refused-3-held-alone", "sink.refused-3-done-alone",
     "payload.of-none", "payload.of-done", "payload.of-unit", "payload.all-ones",
     "catalogue.none", "catalogue.some", "catalogue.512",
     "catalogue.refused-9", "catalogue.refused-10", "catalogue.refused-11", "catalogue.refused-4",
-    "catalogue.refused-5", "catalogue.refused-12", "catalogue.refused-13",
-    "lookup.found", "lookup.refused-14", "lookup.catalogue-refused",
-    "list.listed", "list.refused",
+    "catalogue.refused-5", "catalogue.refused-20", "catalogue.refused-21", "catalogue.refused-12",
+    "catalogue.refused-13",
+    "catalogue.refused-5-in-a-later-record", "catalogue.refused-20-in-a-later-record",
+    "catalogue.refused-21-in-a-later-record", "catalogue.refused-character-in-a-record-above-99",
+    "catalogue.refused-10-before-5", "catalogue.refused-10-before-20", "catalogue.refused-10-before-21",
+    "catalogue.refused-11-before-5", "catalogue.refused-11-before-20", "catalogue.refused-11-before-21",
+    "catalogue.refused-4-before-5", "catalogue.refused-4-before-20", "catalogue.refused-4-before-21",
+    "catalogue.refused-5-before-12", "catalogue.refused-20-before-12", "catalogue.refused-21-before-12",
+    "catalogue.refused-5-before-13", "catalogue.refused-20-before-13", "catalogue.refused-21-before-13",
+    "catalogue.refused-5-before-a-later-record", "catalogue.refused-20-before-a-later-record",
+    "catalogue.refused-21-before-a-later-record",
+    "lookup.found", "lookup.refused-14", "lookup.refused-5", "lookup.refused-20", "lookup.refused-21",
+    "lookup.catalogue-refused",
+    "list.listed", "list.refused-5", "list.refused-20", "list.refused-21", "list.refused",
     "parity.asked", "check.no", "check.yes", "read.asked", "read.not-two-bytes",
     "defects.0", "defects.1", "defects.2", "defects.3", "defects.4",
-    "tx.taken", "tx.refused-4", "tx.refused-5", "tx.refused-6",
-    "tx.refused-4-before-5", "tx.refused-4-before-6", "tx.refused-5-before-6",
-    "rx.taken", "rx.refused-4", "rx.refused-5", "rx.refused-4-before-5",
+    "tx.taken", "tx.refused-4", "tx.refused-5", "tx.refused-20", "tx.refused-21", "tx.refused-6",
+    "tx.refused-4-before-5", "tx.refused-4-before-20", "tx.refused-4-before-21", "tx.refused-4-before-6",
+    "tx.refused-5-before-6", "tx.refused-20-before-6", "tx.refused-21-before-6",
+    "rx.taken", "rx.refused-4", "rx.refused-5", "rx.refused-20", "rx.refused-21",
+    "rx.refused-4-before-5", "rx.refused-4-before-20", "rx.refused-4-before-21",
     "runs.one", "runs.more", "runs.none", "runs.too-many",
     "runs.behind-a-refused-tx", "runs.behind-a-refused-rx",
+    // The characters of a trace that was the cause of a refusal, or was taken
+    "trace.refused-first-place", "trace.refused-place-2", "trace.refused-place-3", "trace.refused-place-4",
+    "trace.refused-place-5", "trace.refused-place-6", "trace.refused-place-7", "trace.refused-place-8",
+    "trace.refused-place-9", "trace.refused-place-10", "trace.refused-place-11", "trace.refused-place-12",
+    "trace.refused-place-13", "trace.refused-place-14", "trace.refused-last-place",
+    "trace.refused-00", "trace.refused-1F", "trace.refused-7F", "trace.refused-80", "trace.refused-FF",
+    "trace.below-before-above", "trace.above-before-below", "trace.below-before-below", "trace.above-before-above",
+    "trace.spaces-but-one-below", "trace.spaces-but-one-above",
+    "trace.taken-20", "trace.taken-7E",
+    "trace.taken-spaces-but-the-first", "trace.taken-spaces-but-one-between", "trace.taken-spaces-but-the-last",
     // The lines of a script
     "script.not-understood", "script.comment", "script.blank",
     "script.comment-behind-blanks", "script.comment-behind-a-command", "script.comment-with-a-quote",
@@ -128,7 +158,8 @@ pub const NAMES: &[&str] = &[
     "line.longest", "line.longest-with-CR", "line.longest-with-mark",
     "line.too-long", "line.too-long-by-CR", "line.too-long-by-mark", "line.too-long-comment",
     "quoted.empty", "quoted.short", "quoted.fifteen", "quoted.fifteen-when-halved", "quoted.quote", "quoted.blank",
-    "quoted.number-sign", "quoted.refused-character", "quoted.sixteen", "quoted.sixteen-when-halved",
+    "quoted.blanks-alone", "quoted.number-sign", "quoted.refused-character",
+    "quoted.sixteen", "quoted.sixteen-when-halved",
     "quoted.open", "quoted.more-behind", "quoted.no-trace-there", "quoted.inside-a-word",
     "hex.capitals", "hex.small", "hex.mixed",
 ];
@@ -521,6 +552,12 @@ fn good_message(before: &Sink, after: &Sink, note: Note) {
         1 | 2 => "message.good-other-after-1-or-2",
         _ => "message.good-other-after-3",
     });
+    // A trace that comes is not refused.
+    match number_for(&after.characters) {
+        0 => {}
+        21 => note("message.good-of-spaces"),
+        _ => note("message.good-not-of-20-to-7E"),
+    }
     note(match before.without {
         MOST_WITHOUT => "count.48-to-0",
         47 => "count.47-to-0",
@@ -624,17 +661,43 @@ fn each<const COUNT: usize>(cases: [(bool, &'static str); COUNT], note: Note) {
 // Answers of the bench's calls
 // ---------------------------------------------------------------------------
 
-/// A container that the source was asked for, with so many in the queue.
-pub fn container_asked(refused: Option<u8>, queued: usize, note: Note) {
-    note(match refused {
-        None => "container.made",
-        Some(4) => "container.refused-4",
-        Some(5) => "container.refused-5",
-        Some(_) => "container.refused-6",
+/// The number of a refusal, 0 where there is none.
+fn number_in(refused: Option<&Refusal>) -> u8 {
+    refused.map_or(0, |refusal| refusal.number)
+}
+
+/// The number of a trace's fault by itself, 0 where it has none.
+fn number_for(trace: &[u8; 15]) -> u8 {
+    number_in(trace_fault(trace).as_ref())
+}
+
+/// A container that the source was asked for with these settings, with so many
+/// in the queue: what it was refused by, and the faults that it came before.
+pub fn container_asked(refused: Option<&Refusal>, given: &Given, trace: &[u8; 15], queued: usize, note: Note) {
+    let (number, in_trace) = (number_in(refused), number_for(trace));
+    let too_many = given.violations > 8;
+    note(match number {
+        0 => "container.made",
+        4 => "container.refused-4",
+        5 => "container.refused-5",
+        20 => "container.refused-20",
+        21 => "container.refused-21",
+        _ => "container.refused-6",
     });
-    if refused.is_some() && queued == 1 {
-        note("container.refused-second");
-    }
+    each(
+        [
+            (number == 4 && in_trace == 5, "container.refused-4-before-5"),
+            (number == 4 && in_trace == 20, "container.refused-4-before-20"),
+            (number == 4 && in_trace == 21, "container.refused-4-before-21"),
+            (number == 4 && too_many, "container.refused-4-before-6"),
+            (number == 5 && too_many, "container.refused-5-before-6"),
+            (number == 20 && too_many, "container.refused-20-before-6"),
+            (number == 21 && too_many, "container.refused-21-before-6"),
+            (number > 0 && queued == 1, "container.refused-second"),
+        ],
+        note,
+    );
+    refused_trace(number, trace, note);
 }
 
 /// The state in which a unit that was not refused left the sink, and how many
@@ -651,8 +714,8 @@ pub fn fed(state: Pointer, defects: &[bool; 4], note: Note) {
 
 /// The sink's refusal, and the faults that it came before: of the settings, and
 /// of the lengths of unit, held and done buffer.
-pub fn refused(number: u8, expected: &Expected, [unit, held, done]: [usize; 3], note: Note) {
-    let trace_wrong = unprintable(&expected.trace);
+pub fn refused(refusal: &Refusal, expected: &Expected, [unit, held, done]: [usize; 3], note: Note) {
+    let (number, in_trace) = (refusal.number, number_for(&expected.trace));
     let unit_wrong = unit != AU4.unit();
     let held_wrong = held != AU4.container();
     let done_wrong = done != AU4.container();
@@ -660,22 +723,31 @@ pub fn refused(number: u8, expected: &Expected, [unit, held, done]: [usize; 3], 
     note(match number {
         4 => "sink.refused-4",
         5 => "sink.refused-5",
+        20 => "sink.refused-20",
+        21 => "sink.refused-21",
         1 => "sink.refused-1",
         _ => "sink.refused-3",
     });
     each(
         [
-            (number == 4 && trace_wrong, "sink.refused-4-before-5"),
+            (number == 4 && in_trace == 5, "sink.refused-4-before-5"),
+            (number == 4 && in_trace == 20, "sink.refused-4-before-20"),
+            (number == 4 && in_trace == 21, "sink.refused-4-before-21"),
             (number == 4 && unit_wrong, "sink.refused-4-before-1"),
             (number == 4 && buffers_wrong, "sink.refused-4-before-3"),
             (number == 5 && unit_wrong, "sink.refused-5-before-1"),
+            (number == 20 && unit_wrong, "sink.refused-20-before-1"),
+            (number == 21 && unit_wrong, "sink.refused-21-before-1"),
             (number == 5 && buffers_wrong, "sink.refused-5-before-3"),
+            (number == 20 && buffers_wrong, "sink.refused-20-before-3"),
+            (number == 21 && buffers_wrong, "sink.refused-21-before-3"),
             (number == 1 && buffers_wrong, "sink.refused-1-before-3"),
             (number == 3 && !done_wrong, "sink.refused-3-held-alone"),
             (number == 3 && !held_wrong, "sink.refused-3-done-alone"),
         ],
         note,
     );
+    refused_trace(number, &expected.trace, note);
 }
 
 /// The payload call, of the container that stood there.
@@ -690,8 +762,8 @@ pub fn payload_asked(place: Option<Place>, ais: bool, note: Note) {
     }
 }
 
-/// The check of a catalogue.
-pub fn checked(answer: &Result<usize, Refusal>, note: Note) {
+/// The check of a catalogue, and the faults that its refusal came before.
+pub fn checked(answer: &Result<usize, Refusal>, bytes: &[u8], note: Note) {
     note(match answer {
         Ok(0) => "catalogue.none",
         Ok(512) => "catalogue.512",
@@ -702,50 +774,139 @@ pub fn checked(answer: &Result<usize, Refusal>, note: Note) {
             11 => "catalogue.refused-11",
             4 => "catalogue.refused-4",
             5 => "catalogue.refused-5",
+            20 => "catalogue.refused-20",
+            21 => "catalogue.refused-21",
             12 => "catalogue.refused-12",
             _ => "catalogue.refused-13",
         },
     });
+    // Those that stand before a trace's faults in the order, and these.
+    let Err(Refusal { number: number @ (10 | 11 | 4 | 5 | 20 | 21), places }) = answer else {
+        return;
+    };
+    let records: Vec<&[u8]> = bytes.chunks(RECORD_LENGTH).collect();
+    let mut traces = HashSet::new();
+    let repeated = records.iter().any(|record| !traces.insert(&record[5..20]));
+    let (this, later) = (records[places[0] - 1], &records[places[0]..]);
+    let mut trace = [0; 15];
+    trace.copy_from_slice(&this[5..20]);
+    let (number, in_trace) = (*number, number_for(&trace));
+    let flags_wrong = this[20] > 15;
+    // A number of a record and one of a character that are not the same.
+    let apart = places[0] > 1 && places.get(1) != Some(&places[0]);
+    let later_wrong = later.iter().any(|record| wrong_record(record));
+    each(
+        [
+            (number == 5 && apart, "catalogue.refused-5-in-a-later-record"),
+            (number == 20 && apart, "catalogue.refused-20-in-a-later-record"),
+            (number == 21 && apart, "catalogue.refused-21-in-a-later-record"),
+            (places.len() == 2 && places[0] > 99, "catalogue.refused-character-in-a-record-above-99"),
+            (number == 10 && in_trace == 5, "catalogue.refused-10-before-5"),
+            (number == 10 && in_trace == 20, "catalogue.refused-10-before-20"),
+            (number == 10 && in_trace == 21, "catalogue.refused-10-before-21"),
+            (number == 11 && in_trace == 5, "catalogue.refused-11-before-5"),
+            (number == 11 && in_trace == 20, "catalogue.refused-11-before-20"),
+            (number == 11 && in_trace == 21, "catalogue.refused-11-before-21"),
+            (number == 4 && in_trace == 5, "catalogue.refused-4-before-5"),
+            (number == 4 && in_trace == 20, "catalogue.refused-4-before-20"),
+            (number == 4 && in_trace == 21, "catalogue.refused-4-before-21"),
+            (number == 5 && flags_wrong, "catalogue.refused-5-before-12"),
+            (number == 20 && flags_wrong, "catalogue.refused-20-before-12"),
+            (number == 21 && flags_wrong, "catalogue.refused-21-before-12"),
+            (number == 5 && repeated, "catalogue.refused-5-before-13"),
+            (number == 20 && repeated, "catalogue.refused-20-before-13"),
+            (number == 21 && repeated, "catalogue.refused-21-before-13"),
+            (number == 5 && later_wrong, "catalogue.refused-5-before-a-later-record"),
+            (number == 20 && later_wrong, "catalogue.refused-20-before-a-later-record"),
+            (number == 21 && later_wrong, "catalogue.refused-21-before-a-later-record"),
+        ],
+        note,
+    );
+    refused_trace(number, &trace, note);
 }
 
-/// A lookup, and the number of its refusal.
-pub fn looked_up(refused: Option<u8>, note: Note) {
-    note(match refused {
-        None => "lookup.found",
-        Some(14) => "lookup.refused-14",
-        Some(_) => "lookup.catalogue-refused",
+/// Whether a record has a fault by itself: of its mark, number, label, trace or
+/// flags.
+fn wrong_record(record: &[u8]) -> bool {
+    let circuit = u16::from_be_bytes([record[2], record[3]]);
+    let trace = &record[5..20];
+    record[..2] != [0x5A, 0x4D]
+        || !(1..=9999).contains(&circuit)
+        || matches!(record[4], 0x00 | 0xFF)
+        || unprintable(trace)
+        || trace == [b' '; 15]
+        || record[20] > 15
+}
+
+/// A lookup, and its refusal.
+pub fn looked_up(refused: Option<&Refusal>, note: Note) {
+    note(match number_in(refused) {
+        0 => "lookup.found",
+        14 => "lookup.refused-14",
+        5 => "lookup.refused-5",
+        20 => "lookup.refused-20",
+        21 => "lookup.refused-21",
+        _ => "lookup.catalogue-refused",
+    });
+}
+
+/// A listing, and the refusal that it prints.
+pub fn listed(refused: Option<&Refusal>, note: Note) {
+    note(match number_in(refused) {
+        0 => "list.listed",
+        5 => "list.refused-5",
+        20 => "list.refused-20",
+        21 => "list.refused-21",
+        _ => "list.refused",
     });
 }
 
 /// The settings of the source: what they are refused by, and the faults that
 /// it came before.
-pub fn sent(refused: Option<u8>, trace: &[u8], violations: u8, note: Note) {
-    note(match refused {
-        None => "tx.taken",
-        Some(4) => "tx.refused-4",
-        Some(5) => "tx.refused-5",
-        Some(_) => "tx.refused-6",
+pub fn sent(refused: Option<&Refusal>, trace: &[u8; 15], violations: u8, note: Note) {
+    let (number, in_trace) = (number_in(refused), number_for(trace));
+    note(match number {
+        0 => "tx.taken",
+        4 => "tx.refused-4",
+        5 => "tx.refused-5",
+        20 => "tx.refused-20",
+        21 => "tx.refused-21",
+        _ => "tx.refused-6",
     });
     each(
         [
-            (refused == Some(4) && unprintable(trace), "tx.refused-4-before-5"),
-            (refused == Some(4) && violations > 8, "tx.refused-4-before-6"),
-            (refused == Some(5) && violations > 8, "tx.refused-5-before-6"),
+            (number == 4 && in_trace == 5, "tx.refused-4-before-5"),
+            (number == 4 && in_trace == 20, "tx.refused-4-before-20"),
+            (number == 4 && in_trace == 21, "tx.refused-4-before-21"),
+            (number == 4 && violations > 8, "tx.refused-4-before-6"),
+            (number == 5 && violations > 8, "tx.refused-5-before-6"),
+            (number == 20 && violations > 8, "tx.refused-20-before-6"),
+            (number == 21 && violations > 8, "tx.refused-21-before-6"),
         ],
         note,
     );
+    taken_trace(number, trace, note);
 }
 
 /// The settings of the sink.
-pub fn expected(refused: Option<u8>, trace: &[u8], note: Note) {
-    note(match refused {
-        None => "rx.taken",
-        Some(4) => "rx.refused-4",
-        Some(_) => "rx.refused-5",
+pub fn expected(refused: Option<&Refusal>, trace: &[u8; 15], note: Note) {
+    let (number, in_trace) = (number_in(refused), number_for(trace));
+    note(match number {
+        0 => "rx.taken",
+        4 => "rx.refused-4",
+        5 => "rx.refused-5",
+        20 => "rx.refused-20",
+        _ => "rx.refused-21",
     });
-    if refused == Some(4) && unprintable(trace) {
-        note("rx.refused-4-before-5");
-    }
+    each(
+        [
+            (number == 4 && in_trace == 5, "rx.refused-4-before-5"),
+            (number == 4 && in_trace == 20, "rx.refused-4-before-20"),
+            (number == 4 && in_trace == 21, "rx.refused-4-before-21"),
+        ],
+        note,
+    );
+    taken_trace(number, trace, note);
 }
 
 /// So many runs, where the settings of source and sink are refused or not.
@@ -757,6 +918,71 @@ pub fn runs(times: usize, sent_refused: bool, expected_refused: bool, note: Note
 /// "trace character outside 20 to 7E"
 fn unprintable(trace: &[u8]) -> bool {
     trace.iter().any(|c| *c < 0x20 || *c > 0x7E)
+}
+
+// ---------------------------------------------------------------------------
+// The characters of a trace
+// ---------------------------------------------------------------------------
+
+const PLACES: [&str; 15] = [
+    "trace.refused-first-place", "trace.refused-place-2", "trace.refused-place-3", "trace.refused-place-4",
+    "trace.refused-place-5", "trace.refused-place-6", "trace.refused-place-7", "trace.refused-place-8",
+    "trace.refused-place-9", "trace.refused-place-10", "trace.refused-place-11", "trace.refused-place-12",
+    "trace.refused-place-13", "trace.refused-place-14", "trace.refused-last-place",
+];
+
+/// A trace of which a call was refused with this number, where it is 5 or 20:
+/// the character that decided, and those behind it. "below 20, above 7E"
+fn refused_trace(number: u8, trace: &[u8; 15], note: Note) {
+    if !matches!(number, 5 | 20) {
+        return;
+    }
+    let is_below = |c: u8| c < 0x20;
+    let is_above = |c: u8| c > 0x7E;
+    let Some(first) = trace.iter().position(|c| is_below(*c) || is_above(*c)) else {
+        return;
+    };
+    note(PLACES[first]);
+    let (character, behind) = (trace[first], &trace[first + 1..]);
+    let (below, above) = (is_below(character), is_above(character));
+    let below_behind = behind.iter().any(|c| is_below(*c));
+    let above_behind = behind.iter().any(|c| is_above(*c));
+    let spaces = number_of(b' ', trace) == 14;
+    each(
+        [
+            (character == 0x00, "trace.refused-00"),
+            (character == 0x1F, "trace.refused-1F"),
+            (character == 0x7F, "trace.refused-7F"),
+            (character == 0x80, "trace.refused-80"),
+            (character == 0xFF, "trace.refused-FF"),
+            (below && above_behind, "trace.below-before-above"),
+            (above && below_behind, "trace.above-before-below"),
+            (below && below_behind, "trace.below-before-below"),
+            (above && above_behind, "trace.above-before-above"),
+            (below && spaces, "trace.spaces-but-one-below"),
+            (above && spaces, "trace.spaces-but-one-above"),
+        ],
+        note,
+    );
+}
+
+/// A trace that settings have which are not refused.
+fn taken_trace(number: u8, trace: &[u8; 15], note: Note) {
+    if number != 0 {
+        return;
+    }
+    let spaces = number_of(b' ', trace) == 14;
+    let (first, last) = (trace[0] != b' ', trace[14] != b' ');
+    each(
+        [
+            (trace.contains(&0x20), "trace.taken-20"),
+            (trace.contains(&0x7E), "trace.taken-7E"),
+            (spaces && first, "trace.taken-spaces-but-the-first"),
+            (spaces && !first && !last, "trace.taken-spaces-but-one-between"),
+            (spaces && last, "trace.taken-spaces-but-the-last"),
+        ],
+        note,
+    );
 }
 
 // ---------------------------------------------------------------------------
@@ -870,6 +1096,7 @@ fn quoted(inside: &[u8], settings: bool, understood: bool, note: Note) {
             (understood && characters == 15 && halved, "quoted.fifteen-when-halved"),
             (understood && halved, "quoted.quote"),
             (understood && inside.contains(&b' '), "quoted.blank"),
+            (understood && characters > 0 && inside.iter().all(|c| *c == b' '), "quoted.blanks-alone"),
             (understood && inside.contains(&b'#'), "quoted.number-sign"),
             (understood && unprintable(inside), "quoted.refused-character"),
             (settings && !understood && characters == 16 && !halved, "quoted.sixteen"),

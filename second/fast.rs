@@ -5,7 +5,8 @@
 //! are the same, and the tests below ask both.
 //!
 //! It is the rival of the base and stays so: AU-4 alone, by the base rules. A
-//! later request changes it only where that costs nothing.
+//! later request changes it only where that costs nothing. So it knows a
+//! refusal's number and not the places: with these each call would take longer.
 //!
 //! States are changed in place, nothing is allocated, bytes go by
 //! `copy_from_slice`, and parity is taken 32 bytes at a time. A sink at rest
@@ -139,15 +140,28 @@ fn label_good(label: u8) -> bool {
     label != 0x00 && label != 0xFF
 }
 
-/// Whether all 15 characters are from 20 to 7E: eight at a time, one of them
-/// twice. Only the others have their top bit set when 1 is added or 20 taken
-/// away; those before the first of them carry nothing into it.
+/// Whether all 15 characters are from 20 to 7E and one is no space: eight at a
+/// time, one of them twice. Only others than these have their top bit set when 1
+/// is added or 20 taken away; those before the first of them carry nothing into
+/// it. Spaces alone leave nothing when 20 is taken away.
 #[inline(always)]
 fn characters_good(trace: &[u8; 15]) -> bool {
     const ONE: u64 = u64::from_le_bytes([0x01; 8]);
     const SPACE: u64 = u64::from_le_bytes([0x20; 8]);
-    let tops = |word: u64| word.wrapping_add(ONE) | word.wrapping_sub(SPACE);
-    (tops(eight(trace, 0)) | tops(eight(trace, 7))) & TOP == 0
+    let (one, other) = (eight(trace, 0), eight(trace, 7));
+    let over = one.wrapping_sub(SPACE) | other.wrapping_sub(SPACE);
+    (over | one.wrapping_add(ONE) | other.wrapping_add(ONE)) & TOP == 0 && over != 0
+}
+
+/// The number of characters that are not good: the first that is below or above
+/// decides.
+#[cold]
+fn in_trace(trace: &[u8; 15]) -> u8 {
+    match trace.iter().find(|character| !(0x20..=0x7E).contains(*character)) {
+        Some(0x00..=0x1F) => 5,
+        Some(_) => 20,
+        None => 21,
+    }
 }
 
 #[inline(always)]
@@ -205,7 +219,7 @@ pub fn container_source(
         return Err(4);
     }
     if !characters_good(trace) {
-        return Err(5);
+        return Err(in_trace(trace));
     }
     let payload = <&Payload>::try_from(payload).map_err(|_| 2)?;
     let container = <&mut Container>::try_from(container).map_err(|_| 3)?;
@@ -767,7 +781,7 @@ fn refusal(s: &Sink, expected: &Expected, unit_length: usize) -> u8 {
     } else if !label_good(expected.label) {
         4
     } else if !characters_good(&expected.trace) {
-        5
+        in_trace(&expected.trace)
     } else if unit_length != UNIT_LENGTH {
         1
     } else {
@@ -983,8 +997,14 @@ mod tests {
 
         fn expected(&mut self) -> Expected {
             let mut trace = self.trace();
-            if self.once_in(40) {
-                trace[self.below(15) as usize] = self.of(&[0x1F, 0x20, 0x7E, 0x7F, 0x80, 0xFF, 0x00]);
+            if self.once_in(20) {
+                // One character or two, or spaces but for none, one or two.
+                if self.bool() {
+                    trace = [b' '; 15];
+                }
+                for _ in 0..self.below(3) {
+                    trace[self.below(15) as usize] = self.of(&[0x1F, 0x20, 0x21, 0x7E, 0x7F, 0x80, 0xFF, 0x00]);
+                }
             }
             Expected {
                 label: if self.once_in(30) { self.label() } else { 0x12 },
@@ -1021,6 +1041,9 @@ mod tests {
         /// The bytes of a message, some of them wrong.
         fn message(&mut self) -> [u8; 16] {
             let mut trace = self.trace();
+            if self.once_in(8) {
+                trace = self.of(&[[0x20; 15], [0x1F; 15]]);
+            }
             if self.once_in(6) {
                 trace[self.below(15) as usize] |= 0x80;
             }
@@ -1188,7 +1211,8 @@ mod tests {
         done: Vec<u8>,
     }
 
-    /// Feeds both and compares all there is; the answer of the two.
+    /// Feeds both and compares all there is, of a refusal its number; the answer
+    /// of the two.
     fn both(
         plain: &mut Side,
         fast: &mut Side,
@@ -1198,7 +1222,7 @@ mod tests {
     ) -> Result<second::Answer, u8> {
         let before = plain.clone();
         let said = second::sink(AU4, &plain.s, expected, unit, &mut plain.held, &mut plain.done, note);
-        let said = said.map(|(after, answer)| {
+        let said = said.map_err(|refusal| refusal.number).map(|(after, answer)| {
             plain.s = after;
             answer
         });
@@ -1243,16 +1267,22 @@ mod tests {
             dice.fill(&mut characters);
             assert_eq!(start_byte(&characters), second::start_byte(&characters));
         }
-        let is_good = |trace: &[u8; 15]| trace.iter().all(|character| (0x20..=0x7E).contains(character));
+        let ask = |trace: &[u8; 15]| {
+            let fault = second::trace_fault(trace).map(|refusal| refusal.number);
+            assert_eq!(characters_good(trace), fault.is_none());
+            assert_eq!(fault.unwrap_or(21), in_trace(trace));
+            fault
+        };
+        assert_eq!(ask(&[0x20; 15]), Some(21));
         for around in [0x20, 0x41, 0x7E] {
             for place in 0..15 {
                 for byte in 0..=255 {
                     let mut trace = [around; 15];
                     trace[place] = byte;
-                    assert_eq!(characters_good(&trace), is_good(&trace));
+                    ask(&trace);
                     // A second one beside it.
                     trace[(place + 1) % 15] = dice.of(&[0x00, 0x1F, 0x7F, 0x80, 0xDF, 0xFF]);
-                    assert!(!characters_good(&trace));
+                    assert!(matches!(ask(&trace), Some(5 | 20)));
                 }
             }
         }
@@ -1278,6 +1308,7 @@ mod tests {
             let mut container = dice.some_bytes(length);
             let mut fast_container = container.clone();
             let said = second::container_source(AU4, plain_containers, given, &trace, &payload, &mut container);
+            let said = said.map_err(|refusal| refusal.number);
             let fast_said = container_source(&mut fast_containers, &given, &trace, &payload, &mut fast_container);
             assert_eq!(said.map(|_| ()), fast_said);
             assert_eq!(said.unwrap_or(plain_containers), fast_containers);
@@ -1297,6 +1328,7 @@ mod tests {
             let mut unit = dice.some_bytes(length);
             let mut fast_unit = unit.clone();
             let said = second::unit_source(AU4, plain_units, asked, &container, &next, &mut unit);
+            let said = said.map_err(|refusal| refusal.number);
             let fast_said = unit_source(&mut fast_units, asked, &container, &next, &mut fast_unit);
             assert_eq!(said.map(|(ended, _)| ended), fast_said);
             assert_eq!(said.map_or(plain_units, |(_, after)| after), fast_units);
@@ -1311,6 +1343,7 @@ mod tests {
             let mut fast_into = into.clone();
             let ais = dice.bool();
             let said = second::payload_call(AU4, &container, ais, &mut into);
+            let said = said.map_err(|refusal| refusal.number);
             assert_eq!(said, payload_call(&container, ais, &mut fast_into));
             assert!(into == fast_into);
             made[2] += u32::from(said.is_ok());
@@ -1325,7 +1358,7 @@ mod tests {
     fn single_calls() {
         let mut dice = Dice(4);
         let mut counts = Counts::new();
-        let mut refused = [0; 9];
+        let mut refused = [0; 22];
         let (mut rested, mut steady) = (0, 0);
         for call in 0..30_000 {
             let expected = dice.expected();
@@ -1398,7 +1431,7 @@ mod tests {
                 Err(number) => refused[usize::from(number)] += 1,
             }
         }
-        for number in [1, 3, 4, 5, 8] {
+        for number in [1, 3, 4, 5, 8, 20, 21] {
             assert!(refused[number] > 100, "{refused:?}");
         }
         assert!(rested > 1500 && steady > 800, "{rested} {steady}");

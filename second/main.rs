@@ -47,14 +47,7 @@ fn lookup_text(bytes: &[u8], circuit: u32) -> String {
                 .collect();
             format!("found {:02X} {} {}\n", record.label, trace, record.flags)
         }
-        Err(refusal) => {
-            let places: String = refusal
-                .places
-                .iter()
-                .map(|place| format!(" {place}"))
-                .collect();
-            format!("refused {}{}\n", refusal.number, places)
-        }
+        Err(refusal) => format!("refused {refusal}\n"),
     }
 }
 

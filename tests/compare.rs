@@ -142,7 +142,7 @@ fn fault(r: &mut Random, b: &mut Vec<u8>) {
         return;
     }
     let k = r.below(n) * 21;
-    match r.below(11) {
+    match r.below(13) {
         0 => {
             let at = k + r.below(21);
             b[at] = r.byte();
@@ -159,7 +159,22 @@ fn fault(r: &mut Random, b: &mut Vec<u8>) {
             b[at] = [0x1F, 0x20, 0x7E, 0x7F, 0x80, 0x00, 0xFF][r.below(7)];
         }
         6 => b[k + 20] = [15, 16, 255][r.below(3)],
-        7 | 8 => {
+        7 => {
+            // two characters, one behind the other
+            let at = r.below(14);
+            for place in [at, at + 1 + r.below(14 - at)] {
+                b[k + 5 + place] = [0x00, 0x1F, 0x7F, 0x80, 0xFF, r.byte()][r.below(6)];
+            }
+        }
+        8 => {
+            // spaces alone, or but for one
+            b[k + 5..k + 20].fill(b' ');
+            if r.below(2) == 0 {
+                let at = k + 5 + r.below(15);
+                b[at] = [0x00, 0x1F, 0x21, 0x7E, 0x7F, 0xFF][r.below(6)];
+            }
+        }
+        9 | 10 => {
             // the trace of another record, or nearly
             let other = r.below(n) * 21;
             let trace = b[other + 5..other + 20].to_vec();
@@ -168,7 +183,7 @@ fn fault(r: &mut Random, b: &mut Vec<u8>) {
                 b[k + 19] = 0x20;
             }
         }
-        9 => b.truncate(b.len() - 1 - r.below(21)),
+        11 => b.truncate(b.len() - 1 - r.below(21)),
         _ => {
             let extra = r.byte();
             b.push(extra);
@@ -187,7 +202,7 @@ fn packed(answer: &Result<usize, second::Refusal>) -> u64 {
     }
 }
 
-fn catalogue(r: &mut Random, t: &mut Tally, b: &[u8], met: &mut [u64; 15]) {
+fn catalogue(r: &mut Random, t: &mut Tally, b: &[u8], met: &mut [u64; 22]) {
     let answer = second::catalogue_check(b);
     t.same("catalogue check", &|| hex(b), packed(&answer), proved::check(b));
     t.same("listing", &|| hex(b), (second::listing(b), true), proved::list(b));
@@ -214,7 +229,7 @@ fn catalogue(r: &mut Random, t: &mut Tally, b: &[u8], met: &mut [u64; 15]) {
 }
 
 fn catalogues(r: &mut Random, t: &mut Tally) {
-    let mut met = [0u64; 15]; // how often each answer came, 0 for a good catalogue
+    let mut met = [0u64; 22]; // how often each answer came, 0 for a good catalogue
     for round in 0..6000 {
         let n = match round % 40 {
             0 => 0,
@@ -243,7 +258,7 @@ fn catalogues(r: &mut Random, t: &mut Tally) {
     b[512 * 21 - 2] = if b[512 * 21 - 2] == b'~' { b'}' } else { b'~' };
     catalogue(r, t, &b, &mut met);
     for (number, times) in met.iter().enumerate() {
-        if matches!(number, 0 | 4 | 5 | 9..=14) && *times < 20 {
+        if matches!(number, 0 | 4 | 5 | 9..=14 | 20 | 21) && *times < 20 {
             println!("compare: answer {number} of the catalogue was met {times} times only");
             t.differed += 1;
         }
@@ -253,14 +268,20 @@ fn catalogues(r: &mut Random, t: &mut Tally) {
 /// A label and a trace checked before any call: the number by which the second program's source and its sink refuse them,
 /// asked with nothing else wrong; 5 for any other number of characters, but behind 4.
 fn settings(r: &mut Random, t: &mut Tally) {
-    let mut met = [0usize; 6];
+    let mut met = [0usize; 22];
     for round in 0..3000 {
         let label = [0x00, 0x01, 0x12, 0xFE, 0xFF, r.byte()][round % 6];
         let length = if r.below(4) == 0 { r.below(32) } else { 15 };
         let mut characters: Vec<u8> = (0..length).map(|_| 0x20 + r.below(0x5F) as u8).collect();
-        if length > 0 && r.below(2) == 0 {
-            let at = r.below(length);
-            characters[at] = [0x00, 0x1F, 0x20, 0x7E, 0x7F, 0x80, 0xFF, r.byte()][r.below(8)];
+        // spaces but for none, one or two; or any good characters but for these
+        if r.below(4) == 0 {
+            characters.fill(b' ');
+        }
+        if length > 0 {
+            for _ in 0..[0, 0, 1, 2][r.below(4)] {
+                let at = r.below(length);
+                characters[at] = [0x00, 0x1F, 0x20, 0x21, 0x7E, 0x7F, 0x80, 0xFF, r.byte()][r.below(9)];
+            }
         }
         let want = match <[u8; 15]>::try_from(&characters[..]) {
             Ok(trace) => {
@@ -277,9 +298,9 @@ fn settings(r: &mut Random, t: &mut Tally) {
                     second::Expected { label, trace, monitored: false, rdi_reported: false, ssf_reported: false, ais_reported: false };
                 let (unit, mut held, mut done) = ([0; 2358], [0; 2349], [0; 2349]);
                 let fed = second::sink(second::AU4, &second::Sink::fresh(), &expected, &unit, &mut held, &mut done, &mut |_| {});
-                let (source, sink) = (sent.err().unwrap_or(0), fed.err().unwrap_or(0));
-                t.same("settings, the second program's source and sink", &|| hex(&trace), source, sink);
-                sink
+                let (source, sink) = (sent.err(), fed.err());
+                t.same("settings, the second program's source and sink", &|| hex(&trace), &source, &sink);
+                sink.map_or(0, |refusal| refusal.number)
             }
             Err(_) if label == 0x00 || label == 0xFF => 4,
             Err(_) => 5,
@@ -288,7 +309,7 @@ fn settings(r: &mut Random, t: &mut Tally) {
         t.same("settings", &input, want, proved::settings_check(label, &characters));
         met[usize::from(want)] += 1;
     }
-    for number in [0, 4, 5] {
+    for number in [0, 4, 5, 20, 21] {
         if met[number] < 100 {
             println!("compare: answer {number} of the settings was met {} times only", met[number]);
             t.differed += 1;

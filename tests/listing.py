@@ -6,7 +6,9 @@ Usage: listing.py LIST SECOND     the built listing program, and the built secon
 Each file of tests/catalogues is read as it is written there, fed to both, and
 their output compared byte for byte. A file named refused-NN.. must be refused
 with NN, one named good-.. must be listed; every refusal of a catalogue must be
-among them. Longer files, up to and past the longest catalogue, are made here.
+among them, and those that name two places must be said whole in their file, in a
+comment `# prints NN place..`, with two that differ. Longer files, up to and past
+the longest catalogue, are made here.
 """
 import os
 import pathlib
@@ -16,6 +18,8 @@ import sys
 import time
 
 LONGEST = 512 * 21
+REFUSALS = {4, 5, 9, 10, 11, 12, 13, 20, 21}
+TWO_PLACES = {5, 13, 20}
 
 
 def catalogue(text):
@@ -29,6 +33,12 @@ def catalogue(text):
         if re.sub(r"[0-9A-F ]|\|[^|]*\|", "", line):
             sys.exit(f"listing: a catalogue's line is not understood: {line}")
     return data
+
+
+def said_whole(text):
+    """The line that the file says it prints; none where it says nothing."""
+    found = re.search(r"^# prints (\d+(?: \d+)*)$", text, re.MULTILINE)
+    return found and found.group(1).encode()
 
 
 def record(k):
@@ -77,7 +87,8 @@ def main():
         sys.exit(__doc__)
     listing, second = [sys.argv[1]], [sys.argv[2], "list"]
     here = pathlib.Path(__file__).parent
-    cases = [(p.stem, catalogue(p.read_text())) for p in sorted((here / "catalogues").glob("*.txt"))]
+    texts = {p.stem: p.read_text() for p in sorted((here / "catalogues").glob("*.txt"))}
+    cases = [(name, catalogue(text)) for name, text in texts.items()]
     cases.append(("good-shelf", (here.parent / "examples" / "shelf.cat").read_bytes()))
     longest = b"".join(record(k) for k in range(1, 513))
     cases.append(("good-512-records", longest))
@@ -88,21 +99,26 @@ def main():
     cases.append(("refused-10-in-the-last", longest[: LONGEST - 21] + b"\0" * 21))
     cases += [(f"refused-09-cut-{n}", longest[:n]) for n in (1, 2, 20, 22, 41, LONGEST - 1)]
 
-    failed, met = 0, set()
+    failed, met, two = 0, set(), set()
     for name, data in cases:
         ours, theirs = run(listing, data), run(second, data)
         said = re.match(r"(?:good|refused-(\d\d))-?", name).group(1)
         first = ours.split(b"\n")[0]
-        right = first == b"circuit label trace flags" if said is None else first.split(b" ")[0] == str(int(said)).encode()
+        number, *places = first.split(b" ")
+        right = first == b"circuit label trace flags" if said is None else number == str(int(said)).encode()
+        whole = said_whole(texts.get(name, ""))
+        right = right and whole in (None, first)
         met.add(int(said) if said else 0)
+        if whole and len(places) == 2 and places[0] != places[1]:
+            two.add(int(number))
         if ours != theirs or not right:
             failed += 1
             print(f"listing: {name} differs:\n  program {ours[:400]!r}\n  second  {theirs[:400]!r}\n  input   {data[:200].hex()}")
     failed += streams(listing)
-    missing = {0, 4, 5, 9, 10, 11, 12, 13} - met
-    if missing:
-        failed += 1
-        print(f"listing: no file for the refusals {sorted(missing)}")
+    for what, missing in (("no file", ({0} | REFUSALS) - met), ("no file that says two places", TWO_PLACES - two)):
+        if missing:
+            failed += 1
+            print(f"listing: {what} for the refusals {sorted(missing)}")
     print(f"listing: {len(cases)} files, {failed} differ")
     sys.exit(1 if failed else 0)
 

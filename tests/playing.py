@@ -43,9 +43,17 @@ def trace_of(word):
     return word[1:-1].replace('""', '"').encode().ljust(15) if word.startswith('"') else bytes.fromhex(word)
 
 
+def trace_refused(trace):
+    """How a trace is refused, `5 3`, `20 15` or `21`: its first character below 20 or above 7E with the place from 1, or spaces alone; none where it is not."""
+    for place, byte in enumerate(trace, 1):
+        if not 0x20 <= byte <= 0x7E:
+            return f"{5 if byte < 0x20 else 20} {place}"
+    return "21" if trace == b" " * 15 else None
+
+
 def refused_at_once(words):
-    """What a `tx` or `rx` that is understood prints: `tx refused N`, or none."""
+    """What a `tx` or `rx` that is understood prints: `tx refused N`, with the place behind it where one is named; or none."""
     label, trace = int(words[1], 16), trace_of(words[2])
-    number = (4 if label in (0x00, 0xFF) else 5 if any(not 0x20 <= byte <= 0x7E for byte in trace)
-              else 6 if words[0] == "tx" and int(words[3]) > 8 else None)
-    return f"{words[0]} refused {number}" if number else None
+    refused = ("4" if label in (0x00, 0xFF) else trace_refused(trace)
+               or ("6" if words[0] == "tx" and int(words[3]) > 8 else None))
+    return f"{words[0]} refused {refused}" if refused else None

@@ -196,6 +196,7 @@ impl Script {
         Self::place(self.path.units.offset, row)
     }
 
+    /// A trace that nothing refuses.
     fn trace(&mut self) -> [u8; 15] {
         let mut t = [b' '; 15];
         match self.r.below(8) {
@@ -217,6 +218,56 @@ impl Script {
                 let name = format!("LINE {}", self.r.below(4));
                 t[..name.len()].copy_from_slice(name.as_bytes());
             }
+        }
+        if t == [b' '; 15] {
+            return self.spaces_but_one();
+        }
+        t
+    }
+
+    /// A good trace with as many spaces as one can have.
+    fn spaces_but_one(&mut self) -> [u8; 15] {
+        let mut t = [b' '; 15];
+        let at = self.r.below(15);
+        t[self.of(&[0, at, at, 14])] = self.of(b"!~A0\"#");
+        t
+    }
+
+    /// The same but for one character, and as good.
+    fn nearly(trace: [u8; 15], place: usize) -> [u8; 15] {
+        let mut t = trace;
+        t[place] = if t[place] == b'x' { b'y' } else { b'x' };
+        t
+    }
+
+    /// The characters of a good message that no source sends.
+    fn unsent(&mut self) -> [u8; 15] {
+        self.of(&[[b' '; 15], [b' '; 15], [0x00; 15], [0x7F; 15]])
+    }
+
+    /// A character below the good ones, or above.
+    fn wrong_character(&mut self) -> u8 {
+        let any = self.r.byte();
+        match self.r.below(2) {
+            0 => self.of(&[0x00, 0x1F, any % 0x20]),
+            _ => self.of(&[0x7F, 0x80, 0xFF, any | 0x80]),
+        }
+    }
+
+    /// A trace that is refused: spaces alone, or one character or more below or
+    /// above, at any place, among spaces or others.
+    fn wrong_trace(&mut self) -> [u8; 15] {
+        let (good, spaces) = (self.trace(), [b' '; 15]);
+        let (mut t, n) = match self.r.below(8) {
+            0 | 1 => return spaces,
+            2 => (spaces, 1),
+            3..=5 => (good, 1),
+            6 => (good, 2),
+            _ => (good, self.among(2, 15)),
+        };
+        for _ in 0..n {
+            let at = self.r.below(15);
+            t[self.of(&[at, at, at, at, 0, 14])] = self.wrong_character();
         }
         t
     }
@@ -420,8 +471,8 @@ impl Script {
                 self.word(ndf, 2, beyond);
             }
             4 => {
-                let ndf = self.of(&ENABLED);
-                self.word(ndf, wrong_ss, any);
+                let (ndf, value) = (self.of(&ENABLED), self.of(&[any, beyond]));
+                self.word(ndf, wrong_ss, value);
             }
             5 | 6 => {
                 let ndf = self.of(&NORMAL);
@@ -511,6 +562,16 @@ impl Script {
             self.good(3);
         }
         self.words(kind, n);
+        match self.r.below(3) {
+            0 => {
+                // out of range
+                self.source();
+                self.invalid(5);
+                self.say("sink");
+            }
+            1 => self.words(Kind::NewData, 1),
+            _ => {}
+        }
         let (kind, n) = self.of(&[
             (Kind::Invalid, 3),
             (Kind::NewData, 3),
@@ -615,9 +676,12 @@ impl Script {
         if self.chance(6) {
             characters[self.r.below(15)] = self.r.below(0x80) as u8; // any with top bit 0
         }
+        if self.chance(2) {
+            characters = self.unsent();
+        }
         let mut message = vec![second::start_byte(&characters)];
         message.extend_from_slice(&characters);
-        let n = self.of(&[10, 20, 35, 52]);
+        let n = self.of(&[10, 20, 35, 36, 52]);
         let mut label = self.path.expected.label;
         for k in 0..n {
             let offset = match self.state() {
@@ -713,23 +777,22 @@ impl Script {
     /// Settings that the source refuses, and units asked for meanwhile.
     fn refused_source(&mut self) {
         let (label, trace) = (self.label, self.trace);
-        let mut wrong = trace;
-        wrong[self.r.below(15)] = self.of(&[0x00, 0x1F, 0x7F, 0x80, 0xFF]);
-        for _ in 0..self.among(3, 6) {
-            match self.r.below(4) {
+        for _ in 0..self.among(5, 9) {
+            let wrong = self.wrong_trace();
+            match self.r.below(6) {
                 0 => {
                     let label = self.of(&[0x00, 0xFF]);
                     self.tx(label, trace, 0, false);
                 }
-                1 => self.tx(label, wrong, 0, false),
-                2 => {
+                1 | 2 => self.tx(label, wrong, 0, false),
+                3 => {
                     let violations = self.of(&[9, 15, 16, 255]);
-                    let trace = self.of(&[trace, wrong]);
+                    let trace = self.of(&[trace, wrong, wrong]);
                     self.tx(label, trace, violations, true);
                 }
                 _ => {
-                    let (trace, violations) = self.of(&[(wrong, 9), (trace, 9), (wrong, 0)]);
-                    self.tx(0x00, trace, violations, true);
+                    let (label, trace, violations) = self.of(&[(0x00, wrong, 9), (0xFF, trace, 9), (0x00, wrong, 0), (0xFF, wrong, 0)]);
+                    self.tx(label, trace, violations, true);
                 }
             }
             for _ in 0..self.among(1, 3) {
@@ -841,10 +904,8 @@ impl Script {
     fn without_the_right_one(&mut self) {
         self.settle();
         let e = self.path.expected;
-        let mut other = e.trace;
-        other[14] ^= 1;
         let flags = self.flags();
-        self.rx(e.label, other, flags);
+        self.rx(e.label, Self::nearly(e.trace, 14), flags);
         // a message after three of its kind
         for _ in 0..66 {
             if self.path.sink.tim {
@@ -861,17 +922,19 @@ impl Script {
         }
     }
 
+    /// The script's trace is one that it was not.
+    fn another_trace(&mut self) {
+        let before = self.trace;
+        while self.trace == before {
+            self.trace = self.trace();
+        }
+    }
+
     /// Another trace sent, or expected, for long.
     fn other_trace(&mut self) {
         self.settle();
-        let (label, before) = (self.label, self.trace);
-        loop {
-            self.trace = self.trace();
-            if self.trace != before {
-                break;
-            }
-        }
-        let trace = self.trace;
+        self.another_trace();
+        let (label, trace) = (self.label, self.trace);
         let flags = self.flags();
         match self.r.below(4) {
             0 => self.tx(label, trace, 0, false),
@@ -882,8 +945,8 @@ impl Script {
                 self.rx(label, trace, flags);
             }
         }
-        // The fourth message at the latest ends in the 79th.
-        let n = self.of(&[20, 36, 84, 84]);
+        // The fourth message at the latest ends in the 79th, the fifth in the 95th.
+        let n = self.of(&[36, 100, 100]);
         self.good(n);
     }
 
@@ -895,7 +958,7 @@ impl Script {
             while self.path.containers.place != 0 {
                 self.good(1);
             }
-            self.trace = self.trace();
+            self.another_trace();
             let (label, trace) = (self.label, self.trace);
             self.tx(label, trace, 0, false);
             if self.chance(3) {
@@ -915,11 +978,7 @@ impl Script {
             let flags = self.flags();
             let other = if label == 0x55 { 0x56 } else { 0x55 };
             match self.r.below(5) {
-                0 => {
-                    let mut other = trace;
-                    other[0] ^= 1;
-                    self.rx(label, other, flags);
-                }
+                0 => self.rx(label, Self::nearly(trace, 0), flags),
                 1 | 2 => {
                     // dPLM by the setting, then not
                     self.rx(other, trace, flags);
@@ -1023,7 +1082,7 @@ impl Script {
     fn resumed(&mut self) {
         self.say("fresh");
         self.agree();
-        let characters = self.path.expected.trace;
+        let characters = if self.chance(2) { self.unsent() } else { self.path.expected.trace };
         let mut message = vec![second::start_byte(&characters)];
         message.extend_from_slice(&characters);
         self.good(2);
@@ -1059,18 +1118,19 @@ impl Script {
 
     fn lengths(&mut self) {
         let (label, trace) = (self.label, self.trace);
-        let mut wrong = trace;
-        wrong[self.r.below(15)] = self.of(&[0x00, 0x1F, 0x7F, 0x80, 0xFF]);
-        for _ in 0..self.among(6, 12) {
-            let faults = match self.r.below(3) {
-                0 => self.of(&[1, 2, 4, 8, 8, 8]),
+        for _ in 0..self.among(8, 16) {
+            let faults = match self.r.below(4) {
+                0 => self.of(&[1, 2, 4, 8, 8, 8, 8]),
                 1 => self.of(&[3, 5, 9, 6, 10, 12, 12]),
+                // a trace and a length
+                2 => self.of(&[6, 6, 10, 10, 14]),
                 _ => self.r.below(16),
             };
             self.source();
             let label = if faults & 1 != 0 { self.of(&[0x00, 0xFF]) } else { label };
             let flags = self.flags();
-            self.rx(label, if faults & 2 != 0 { wrong } else { trace }, flags);
+            let trace = if faults & 2 != 0 { self.wrong_trace() } else { trace };
+            self.rx(label, trace, flags);
             if faults & 4 != 0 {
                 let n = self.of(&[0, 1, 3, 4, 2349, 2357, 2359, 4096]);
                 self.say(&format!("len {n}"));
@@ -1139,16 +1199,18 @@ impl Script {
         }
     }
 
-    /// Lines that are not understood, or only just.
+    /// Lines that are not understood, or only just; twice in the list are those
+    /// that are cases of their own.
     fn odd(&mut self) {
-        const ODD: [&str; 78] = [
+        const ODD: [&str; 80] = [
             "", " ", "   ", "# a comment", "#", "  # none", " #", "#\"", " sink", "sink ", "sink\r", "sink\r\r", "\rsink", "\r", "\r\r",
             "sink\t", "\tsink", "src\t-", "\t", "Sink", "sink 1", "sink#", "sink #", "sink# 1", "# sink", "\u{FEFF}sink", "\u{FEFF}",
             "\0", "\"sink\"", "src", "src +", "src  -", "src -\r", "src I", "src D", "src \"-\"", "src - -", "fill 0 00", "fill ag 00",
             "fill 00", "fill 00 00 00", "lens 2349", "lens 4097 0", "lens 0 99999", "len", "len -1", "len 4097", "len 0000002358",
             "len 2358 1", "len 235\u{660}", "xor 0", "xor 4096 00", "xor 1000000000 00", "xor 1 0", "word 680", "word 68000", "word 6g00",
             "word 68 00", "word", "payload", "payload 2", "payload x", "tx", "rx 01", "lookup", "ones 1", "fresh x", "fresh \"", "show me",
-            "run", "run 0", "run 10000", "run 1 1", "run -1", "run 0000000001", "run 000000001", "cat \"\"", "parity \"00\"",
+            "run", "run 0", "run 0", "run 10000", "run 10000", "run 1 1", "run -1", "run 0000000001", "run 000000001", "cat \"\"",
+            "parity \"00\"",
         ];
         for _ in 0..self.among(2, 6) {
             match self.r.below(9) {
@@ -1196,7 +1258,7 @@ impl Script {
     fn odd_traces(&mut self) {
         for _ in 0..self.among(1, 4) {
             self.odd_trace();
-            if self.chance(3) {
+            if self.chance(2) {
                 let runs = self.of(&["run 1", "run 2", "run 3"]);
                 self.say(runs);
             }
@@ -1214,12 +1276,16 @@ impl Script {
         // any byte, but an LF would end the line
         any[self.r.below(15)] = self.of(&[0x00, 0x09, 0x0D, 0x1F, 0x7F, 0x80, 0xA0, 0xEF, 0xFF]);
         let from = self.r.below(16);
-        let word = match self.r.below(14) {
+        let (wrong, nearly) = (self.wrong_trace(), self.spaces_but_one());
+        let word = match self.r.below(20) {
             0 => quoted(&sixteen),
             1 => quoted(&quotes),
             2 => quoted(&quotes[from..]),
             11 => quoted(&quotes[1..]),
             12 => quoted(b""),
+            13 => quoted(&b" ".repeat(from.max(1))),
+            14..=16 => self.written(&wrong),
+            17 | 18 => self.written(&nearly),
             3 | 4 => quoted(&any[from..15]),
             5 => {
                 let mut open = quoted(&quotes[from..]);
@@ -1246,6 +1312,30 @@ impl Script {
             let flags = self.flags();
             self.rx_word(label, &word, &flags.to_string());
         }
+    }
+
+    /// Wrong traces at both ends, with other settings wrong too, and a call of
+    /// each end; then good ones again.
+    fn wrong_traces(&mut self) {
+        for _ in 0..self.among(1, 3) {
+            let (label, trace) = self.wrong_settings();
+            let violations = self.of(&[0, 8, 9, 255]);
+            self.tx(label, trace, violations, false);
+            // The first may find two containers.
+            self.source();
+            self.source();
+            let (label, trace) = self.wrong_settings();
+            let flags = self.flags();
+            self.rx(label, trace, flags);
+            self.say("sink");
+        }
+        self.agree();
+    }
+
+    fn wrong_settings(&mut self) -> (u8, [u8; 15]) {
+        let label = self.of(&[self.label, self.label, self.label, 0x00, 0xFF]);
+        let trace = if self.chance(4) { self.spaces_but_one() } else { self.wrong_trace() };
+        (label, trace)
     }
 
     /// A line of just the longest length, or of one byte more, when `besides` bytes have come to it: a CR, or a mark.
@@ -1319,13 +1409,57 @@ impl Script {
         self.catalogue_with(n, faults);
     }
 
+    /// A catalogue of more than 100 records, with a wrong character behind the
+    /// first hundred.
+    fn far_trace(&mut self) {
+        let n = self.among(105, 160);
+        let at = self.among(100, n - 1);
+        let mut bytes = self.records(n);
+        bytes[21 * at + 5 + self.r.below(15)] = self.wrong_character();
+        self.ask(&bytes);
+    }
+
+    /// Catalogues with a wrong trace and often a fault more: in its record, in a
+    /// later one, or a trace that two records have.
+    fn listed_traces(&mut self) {
+        for _ in 0..3 {
+            let n = self.among(1, 5);
+            let mut bytes = self.records(n);
+            let at = 21 * self.r.below(n);
+            let wrong = self.wrong_trace();
+            bytes[at + 5..at + 20].copy_from_slice(&wrong);
+            let other = 21 * self.r.below(n);
+            match self.r.below(6) {
+                0..=2 => {
+                    let kind = self.of(&[0, 1, 2, 4]);
+                    self.fault(&mut bytes, at, kind);
+                }
+                3 if other > at => {
+                    let kind = self.r.below(5);
+                    self.fault(&mut bytes, other, kind);
+                }
+                4 => {
+                    // that trace or a good one once more
+                    let from = self.of(&[at, other]);
+                    let trace = bytes[from + 5..from + 20].to_vec();
+                    bytes.extend_from_slice(&[0x5A, 0x4D, 0x00, 0x01, 0x12]);
+                    bytes.extend_from_slice(&trace);
+                    bytes.push(0x0F);
+                }
+                _ => {}
+            }
+            self.ask(&bytes);
+        }
+    }
+
     /// A catalogue of n records, good or damaged.
     fn catalogue_of(&mut self, n: usize) {
         let faults = self.of(&[0, 0, 1, 1, 1, 2, 3]);
         self.catalogue_with(n, faults);
     }
 
-    fn catalogue_with(&mut self, n: usize, faults: usize) {
+    /// The bytes of n good records.
+    fn records(&mut self, n: usize) -> Vec<u8> {
         let mut bytes = Vec::new();
         for k in 0..n {
             let most = if self.chance(3) { 5 } else { 9999 };
@@ -1334,10 +1468,34 @@ impl Script {
             bytes.extend_from_slice(&circuit.to_be_bytes());
             bytes.push(self.legal_label());
             let mut trace = self.trace();
-            trace[13..].copy_from_slice(&[0x20 + (k / 90) as u8, 0x20 + (k % 90) as u8]);
+            // no two alike, and none of spaces alone
+            trace[13..].copy_from_slice(&[0x20 + (k / 90) as u8, 0x21 + (k % 90) as u8]);
             bytes.extend_from_slice(&trace);
             bytes.push(self.flags() as u8);
         }
+        bytes
+    }
+
+    /// A fault in the record at this place: of its mark, number, label, trace or
+    /// flags.
+    fn fault(&mut self, bytes: &mut [u8], at: usize, kind: usize) {
+        match kind {
+            0 => bytes[at + self.r.below(2)] ^= 1 << self.r.below(8),
+            1 => {
+                let circuit: u16 = self.of(&[0, 10_000, 65_535]);
+                bytes[at + 2..at + 4].copy_from_slice(&circuit.to_be_bytes());
+            }
+            2 => bytes[at + 4] = self.of(&[0x00, 0xFF]),
+            3 => {
+                let trace = self.wrong_trace();
+                bytes[at + 5..at + 20].copy_from_slice(&trace);
+            }
+            _ => bytes[at + 20] = self.of(&[16, 17, 255]),
+        }
+    }
+
+    fn catalogue_with(&mut self, n: usize, faults: usize) {
+        let mut bytes = self.records(n);
         for _ in 0..faults {
             if n == 0 {
                 let byte = self.r.byte();
@@ -1349,14 +1507,7 @@ impl Script {
                 break;
             }
             match self.r.below(8) {
-                0 => bytes[at + self.r.below(2)] ^= 1 << self.r.below(8),
-                1 => {
-                    let circuit: u16 = self.of(&[0, 10_000, 65_535]);
-                    bytes[at + 2..at + 4].copy_from_slice(&circuit.to_be_bytes());
-                }
-                2 => bytes[at + 4] = self.of(&[0x00, 0xFF]),
-                3 => bytes[at + 5 + self.r.below(15)] = self.of(&[0x1F, 0x7F, 0x80, 0xFF, 0x00]),
-                4 => bytes[at + 20] = self.of(&[16, 17, 255]),
+                kind @ 0..=4 => self.fault(&mut bytes, at, kind),
                 5 | 6 => {
                     let other = 21 * self.r.below(n);
                     let trace = bytes[other + 5..other + 20].to_vec();
@@ -1368,10 +1519,15 @@ impl Script {
                 }
             }
         }
-        let text = hex(&bytes);
+        self.ask(&bytes);
+    }
+
+    /// The check of these bytes, and the lookup and the listing of some.
+    fn ask(&mut self, bytes: &[u8]) {
+        let text = hex(bytes);
         let behind = if text.is_empty() { String::new() } else { format!(" {text}") };
         self.say(&format!("cat{behind}"));
-        if n > 40 && self.r.below(3) > 0 {
+        if bytes.len() > 40 * 21 && self.r.below(3) > 0 {
             return;
         }
         let mut circuit = self.of(&[0, 1, 2, 3, 9999, 10_000, 999_999_999]);
@@ -1424,16 +1580,19 @@ const EPISODES: [fn(&mut Script); 34] = [
 ];
 
 /// Those that use few units or none.
-const BETWEEN: [fn(&mut Script); 10] = [
+const BETWEEN: [fn(&mut Script); 13] = [
     Script::odd,
     Script::odd,
     Script::odd,
     Script::odd_traces,
     Script::odd_traces,
+    Script::wrong_traces,
     Script::host,
     Script::host,
     Script::catalogue,
     Script::catalogue,
+    Script::listed_traces,
+    Script::listed_traces,
     Script::payload,
 ];
 
@@ -1500,9 +1659,15 @@ pub fn script(seed: u64, units: usize) -> Vec<u8> {
     if seed % 4 == 2 {
         s.say("run 66");
     }
-    // The longest catalogue, whole.
-    if seed % 4 == 1 {
-        s.catalogue_with(512, 0);
+    // The longest catalogue, whole; and one with a wrong character behind its
+    // first hundred records.
+    match seed % 4 {
+        1 => s.catalogue_with(512, 0),
+        3 => {
+            s.far_trace();
+            s.far_trace();
+        }
+        _ => {}
     }
     // Long lines are large, so they are few. A comment that is too long is no
     // less wrong than a command.
@@ -1516,7 +1681,7 @@ pub fn script(seed: u64, units: usize) -> Vec<u8> {
     }
     // Scripts of following seeds begin at different long episodes. Those of odd
     // seeds have most of them; those of even seeds have most words.
-    let slot = if seed % 2 == 1 { 16 } else { 8 };
+    let slot = if seed % 2 == 1 { 16 } else { 12 };
     let mut long = seed as usize;
     let mut deck = Vec::new();
     while s.sinks < units && s.lines < LINES_A_UNIT * units {
@@ -1539,7 +1704,7 @@ pub fn script(seed: u64, units: usize) -> Vec<u8> {
         if let Some(episode) = deck.pop() {
             episode(&mut s);
         }
-        for _ in 0..2 {
+        for _ in 0..3 {
             s.of(&BETWEEN)(&mut s);
         }
     }

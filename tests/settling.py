@@ -21,7 +21,7 @@ import re
 import sys
 
 sys.dont_write_bytecode = True  # no folder beside the tests
-from playing import play, read_line, refused_at_once, trace_of
+from playing import play, read_line, refused_at_once, trace_of, trace_refused
 
 ROOT = os.path.dirname(os.path.dirname(os.path.abspath(__file__)))
 FOLDER = os.path.join(ROOT, "examples", "settling")
@@ -60,7 +60,7 @@ TABLE = {
     "buffers_not_kept": [run(["kept"], 68, all_of(1, 63), wrong=[67], violations={67: 3, 68: 2}, handed={66: [65], 67: [None], 68: [67]})],
     "wrong_lengths": [run(["lengths"], 1, refused=["refused 3"])] * 2,
     "refused_label": [run(["label-fine"], 1, refused=["container refused 4", "refused 4"])] * 2,
-    "refused_trace": [run(["trace-fine"], 1, refused=["container refused 5", "refused 5"])] * 2,
+    "refused_trace": [run(["trace-fine"], 1, refused=[f"container refused {said}", f"refused {said}"]) for said in ("5 15", "20 15", "21")],
     "refused_violations": [run(["violations"], 0, refused=["container refused 6"])],
     "damaged_byte": [run(["line"], 68, all_of(1, 63), wrong=[67], violations={68: 1}, handed={66: [65], 67: [None], 68: [67]})],
     "cut_unit": [run(["line"], 1, refused=["refused 1"])],
@@ -140,7 +140,7 @@ def settings_dropped(tx, rx):
     label, trace, violations, remote = tx
     for broken, name in ((label != rx[0], "label"), (trace != rx[1], "trace"), (remote == 1, "remote"),
                          (violations > 8, "violations"), (rx[0] in (0x00, 0xFF), "label-fine"),
-                         (any(not 0x20 <= byte <= 0x7E for byte in rx[1]), "trace-fine")):
+                         (trace_refused(rx[1]), "trace-fine")):
         if broken:
             yield name
 

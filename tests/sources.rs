@@ -8,13 +8,13 @@ use second::{Asked, ContainerSource, Given, UnitSource, AU4};
 struct Met {
     what: &'static str,
     order: &'static [u8],
-    times: [u64; 9],
-    over: [u64; 9],
+    times: [u64; 22],
+    over: [u64; 22],
 }
 
 impl Met {
     fn new(what: &'static str, order: &'static [u8]) -> Self {
-        Met { what, order, times: [0; 9], over: [0; 9] }
+        Met { what, order, times: [0; 22], over: [0; 22] }
     }
 
     /// `faults` are those that the call was given.
@@ -67,13 +67,31 @@ fn length(r: &mut Random, right: usize, wrong: bool) -> usize {
     }
 }
 
-fn trace(r: &mut Random, wrong: bool) -> [u8; 15] {
+/// A trace that is not refused: any characters, or spaces but for one.
+fn trace(r: &mut Random) -> [u8; 15] {
     let mut t = [b' '; 15];
-    for c in &mut t {
-        *c = 0x20 + r.below(0x5F) as u8;
+    if r.below(4) > 0 {
+        for c in &mut t {
+            *c = 0x20 + r.below(0x5F) as u8;
+        }
     }
-    if wrong {
-        t[r.below(15)] = [0x00, 0x1F, 0x7F, 0x80, 0xFF][r.below(5)];
+    t[r.below(15)] = [b'!', b'~', 0x21 + r.below(0x5E) as u8][r.below(3)];
+    t
+}
+
+/// A trace that is refused by this number: one character or two of any place, the earlier of them below or above; or spaces alone.
+fn wrong_trace(r: &mut Random, number: u8) -> [u8; 15] {
+    if number == 21 {
+        return [b' '; 15];
+    }
+    let mut t = if r.below(4) == 0 { [b' '; 15] } else { trace(r) };
+    let below = [0x00, 0x1F, r.below(0x20) as u8][r.below(3)];
+    let above = [0x7F, 0x80, 0xFF, 0x7F + r.below(0x81) as u8][r.below(4)];
+    let (first, other) = if number == 5 { (below, above) } else { (above, below) };
+    let at = r.below(15);
+    t[at] = first;
+    if at < 14 && r.below(2) == 0 {
+        t[at + 1 + r.below(14 - at)] = [first, other][r.below(2)];
     }
     t
 }
@@ -103,10 +121,11 @@ fn faults(r: &mut Random, n: usize) -> Vec<bool> {
 }
 
 fn container_calls(r: &mut Random, t: &mut Tally) {
-    let order = &[8, 4, 5, 2, 3, 6];
-    let mut met = Met::new("container source", order);
+    // a trace has one of 5, 20 and 21, in one place of the order
+    let mut met = Met::new("container source", &[8, 4, 5, 20, 21, 2, 3, 6]);
     for _ in 0..3000 {
         let f = faults(r, 6);
+        let order = &[8, 4, [5, 20, 21][r.below(3)], 2, 3, 6];
         let s = ContainerSource {
             place: if f[0] { [16, 17, 128, 255][r.below(4)] } else { r.below(16) as u8 },
             parity: r.byte(),
@@ -115,7 +134,7 @@ fn container_calls(r: &mut Random, t: &mut Tally) {
         if f[1] {
             g.label = [0x00, 0xFF][r.below(2)];
         }
-        let characters = trace(r, f[2]);
+        let characters = if f[2] { wrong_trace(r, order[2]) } else { trace(r) };
         let n = length(r, PAYLOAD, f[3]);
         let payload = r.bytes(n);
         let n = length(r, CONTAINER, f[4]);
@@ -139,7 +158,7 @@ fn one_container(t: &mut Tally, met: &mut Met, s: ContainerSource, g: Given, cha
     let answer = second::container_source(AU4, s, g, characters, payload, &mut want);
     let answer = match answer {
         Ok(next) => (0, next),
-        Err(number) => (number, s),
+        Err(refusal) => (refusal.number, s),
     };
     let mut got = before.to_vec();
     let to_proved = proved::Given { label: g.label, unexamined: [g.f2, g.h4, g.f3, g.k3, g.n1], violations: g.violations, remote: g.remote };
@@ -193,7 +212,7 @@ fn one_unit(t: &mut Tally, met: &mut Met, s: UnitSource, asked: Asked, current: 
     let mut want = before.to_vec();
     let (number, ended, after) = match second::unit_source(AU4, s, asked, current, next, &mut want) {
         Ok((ended, after)) => (0, ended, after),
-        Err(number) => (number, 0, s),
+        Err(refusal) => (refusal.number, 0, s),
     };
     let mut got = before.to_vec();
     let said = proved::unit_source((s.offset, s.wait), asked as u8, current, next, &mut got);
@@ -215,7 +234,7 @@ fn payload_calls(r: &mut Random, t: &mut Tally) {
         let before = r.bytes(n);
         let ais = r.below(2) == 1;
         let mut want = before.clone();
-        let answer = second::payload_call(AU4, &container, ais, &mut want).err().unwrap_or(0);
+        let answer = second::payload_call(AU4, &container, ais, &mut want).map_or_else(|refusal| refusal.number, |()| 0);
         let mut got = before.clone();
         let said = proved::payload_call(&container, ais, &mut got);
         let of = || format!("container {} bytes, payload {} bytes, AIS {ais}", container.len(), before.len());
@@ -232,7 +251,7 @@ fn runs(r: &mut Random, t: &mut Tally) {
     t.same("fresh sources", &|| "nothing".into(), ((container.place, container.parity), (unit.offset, unit.wait)), proved::fresh());
     for start in [0u16, 1, 521, 522, 781, 782] {
         let mut met = [Met::new("containers of a run", &[]), Met::new("units of a run", &[])];
-        let (mut source, characters) = (ContainerSource::fresh(), trace(r, false));
+        let (mut source, characters) = (ContainerSource::fresh(), trace(r));
         let mut unit = UnitSource { offset: start, wait: 3 };
         let mut queue: Vec<Vec<u8>> = Vec::new();
         let mut line = r.bytes(UNIT);

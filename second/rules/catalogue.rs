@@ -1,5 +1,8 @@
 //! The circuit catalogue: its check, the lookup and the listing.
 
+use super::refusal::Refusal;
+use super::trace::trace_fault;
+
 /// "records of 21 bytes"
 pub const RECORD_LENGTH: usize = 21;
 /// "at most 512"
@@ -9,14 +12,6 @@ pub const LONGEST_CATALOGUE: usize = RECORD_LENGTH * MOST_RECORDS;
 
 /// "A two-byte mark before each record, 5A 4D"
 const MARK: [u8; 2] = [0x5A, 0x4D];
-
-/// A refusal's number, and the places printed behind it: "the record's place
-/// from 1", for 13 "later, then first", none for 9 and 14.
-#[derive(Debug, Clone, PartialEq, Eq)]
-pub struct Refusal {
-    pub number: u8,
-    pub places: Vec<usize>,
-}
 
 /// What a record says behind its mark: "circuit number", "label", "15 trace
 /// characters", "flags".
@@ -48,32 +43,28 @@ fn take_apart(bytes: &[u8; RECORD_LENGTH]) -> ([u8; 2], Record) {
     )
 }
 
-/// The refusal number of one record by itself, if it has one: "10, 11, 4, 5,
-/// 12", the first in that order.
-fn record_fault(mark: [u8; 2], record: &Record) -> Option<u8> {
+/// The refusal of one record by itself, if it has one: "10, 11, 4, 5, 12", the
+/// first in that order, 20 and 21 "in the place of 5".
+fn record_fault(mark: [u8; 2], record: &Record) -> Option<Refusal> {
     // 10: "wrong mark"
     if mark != MARK {
-        return Some(10);
+        return Some(Refusal::of(10));
     }
     // 11: "circuit number 0 or above 9999"
     if record.circuit == 0 || record.circuit > 9999 {
-        return Some(11);
+        return Some(Refusal::of(11));
     }
     // 4: "listed label 00 or FF"
     if record.label == 0x00 || record.label == 0xFF {
-        return Some(4);
+        return Some(Refusal::of(4));
     }
-    // 5: "trace character outside 20 to 7E"
-    if record
-        .trace
-        .iter()
-        .any(|character| *character < 0x20 || *character > 0x7E)
-    {
-        return Some(5);
+    // 5, 20, 21: the listed trace
+    if let Some(refusal) = trace_fault(&record.trace) {
+        return Some(refusal);
     }
     // 12: "flags above 15"
     if record.flags > 15 {
-        return Some(12);
+        return Some(Refusal::of(12));
     }
     None
 }
@@ -83,10 +74,7 @@ fn record_fault(mark: [u8; 2], record: &Record) -> Option<u8> {
 fn records(bytes: &[u8]) -> Result<Vec<Record>, Refusal> {
     // 9: "catalogue length no multiple of 21, or above 10,752"
     if bytes.len() % RECORD_LENGTH != 0 || bytes.len() > LONGEST_CATALOGUE {
-        return Err(Refusal {
-            number: 9,
-            places: Vec::new(),
-        });
+        return Err(Refusal::of(9));
     }
 
     // "record by record"
@@ -95,11 +83,8 @@ fn records(bytes: &[u8]) -> Result<Vec<Record>, Refusal> {
         let mut record_bytes = [0; RECORD_LENGTH];
         record_bytes.copy_from_slice(chunk);
         let (mark, record) = take_apart(&record_bytes);
-        if let Some(number) = record_fault(mark, &record) {
-            return Err(Refusal {
-                number,
-                places: vec![index + 1],
-            });
+        if let Some(refusal) = record_fault(mark, &record) {
+            return Err(refusal.in_record(index + 1));
         }
         good.push(record);
     }
@@ -135,10 +120,7 @@ pub fn lookup(bytes: &[u8], circuit: u32) -> Result<Record, Refusal> {
         }
     }
     // 14: "circuit not listed"
-    Err(Refusal {
-        number: 14,
-        places: Vec::new(),
-    })
+    Err(Refusal::of(14))
 }
 
 /// The text of the listing program for this catalogue.
@@ -158,11 +140,7 @@ pub fn listing(bytes: &[u8]) -> Vec<u8> {
         Err(refusal) => {
             // "A refused file prints one line: its number, then the place (13:
             // later, then first; 9: none)."
-            text.extend_from_slice(refusal.number.to_string().as_bytes());
-            for place in refusal.places {
-                text.extend_from_slice(format!(" {place}").as_bytes());
-            }
-            text.push(b'\n');
+            text.extend_from_slice(format!("{refusal}\n").as_bytes());
         }
     }
     text

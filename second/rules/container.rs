@@ -3,8 +3,9 @@
 
 use super::counts::LAST_PLACE;
 use super::parity::parity;
+use super::refusal::Refusal;
 use super::shape::Shape;
-use super::trace::sent_start_byte;
+use super::trace::{sent_start_byte, trace_fault};
 
 /// State of a container source: the place in the message of the J1 that comes
 /// next (0 is the start byte), and the parity of "the container before".
@@ -39,9 +40,9 @@ pub struct Given {
     pub remote: bool,
 }
 
-/// Writes one container; the new state, or the refusal's number, in the order
-/// "8, 4, 5, 2, 3, 6". "A refusal returns its number and the old state.
-/// Nothing lent is written."
+/// Writes one container; the new state, or the refusal, in the order "8, 4, 5,
+/// 2, 3, 6", 20 and 21 "in the place of 5". "A refusal returns its number and
+/// the old state. Nothing lent is written."
 #[inline(always)]
 pub fn container_source(
     shape: Shape,
@@ -50,30 +51,30 @@ pub fn container_source(
     trace: &[u8; 15],
     payload: &[u8],
     container: &mut [u8],
-) -> Result<ContainerSource, u8> {
+) -> Result<ContainerSource, Refusal> {
     // 8: "a state number outside its range"; "message place 15"
     if s.place > LAST_PLACE {
-        return Err(8);
+        return Err(Refusal::of(8));
     }
     // 4: "sent ... label 00 or FF"
     if g.label == 0x00 || g.label == 0xFF {
-        return Err(4);
+        return Err(Refusal::of(4));
     }
-    // 5: "trace character outside 20 to 7E"
-    if trace.iter().any(|character| *character < 0x20 || *character > 0x7E) {
-        return Err(5);
+    // 5, 20, 21: the sent trace
+    if let Some(refusal) = trace_fault(trace) {
+        return Err(refusal);
     }
     // 2: "payload not 2340 bytes"
     if payload.len() != shape.payload() {
-        return Err(2);
+        return Err(Refusal::of(2));
     }
     // 3: "a container ... not 2349 bytes"
     if container.len() != shape.container() {
-        return Err(3);
+        return Err(Refusal::of(3));
     }
     // 6: "violations to return above 8"
     if g.violations > 8 {
-        return Err(6);
+        return Err(Refusal::of(6));
     }
 
     // "J1 carries 16 bytes in turn: a start byte ..., then 15 characters"
@@ -106,14 +107,14 @@ pub fn container_source(
 /// "The payload call writes 2340 bytes, or 2340 of FF where AIS is asked for."
 /// Refused in the order "3, 2".
 #[inline(always)]
-pub fn payload_call(shape: Shape, container: &[u8], ais: bool, payload: &mut [u8]) -> Result<(), u8> {
+pub fn payload_call(shape: Shape, container: &[u8], ais: bool, payload: &mut [u8]) -> Result<(), Refusal> {
     // 3: "a container ... not 2349 bytes"
     if container.len() != shape.container() {
-        return Err(3);
+        return Err(Refusal::of(3));
     }
     // 2: "payload not 2340 bytes"
     if payload.len() != shape.payload() {
-        return Err(2);
+        return Err(Refusal::of(2));
     }
     if ais {
         payload.fill(0xFF);

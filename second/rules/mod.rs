@@ -8,6 +8,7 @@ mod cut;
 mod monitor;
 mod parity;
 mod pointer;
+mod refusal;
 mod shape;
 mod sink;
 mod trace;
@@ -17,5 +18,6 @@ mod word;
 // A program that takes these as a module need not use all of them.
 #[allow(unused_imports)]
 pub use self::{
-    catalogue::*, container::*, cut::*, monitor::*, parity::*, pointer::*, shape::*, sink::*, trace::*, unit::*, word::*,
+    catalogue::*, container::*, cut::*, monitor::*, parity::*, pointer::*, refusal::*, shape::*, sink::*, trace::*,
+    unit::*, word::*,
 };

@@ -6,7 +6,9 @@ use super::counts::{LAST_PLACE, MOST_EQUAL, MOST_MESSAGES, MOST_WITHOUT};
 use super::cut::{cut, held_count};
 use super::monitor::{Ended, Watch};
 use super::pointer::{Pointer, PointerReader};
+use super::refusal::Refusal;
 use super::shape::Shape;
+use super::trace::trace_fault;
 use super::word::Word;
 
 /// State of a sink.
@@ -169,9 +171,9 @@ impl Sink {
     }
 }
 
-/// The sink fed one unit: the new state and the answer, or the refusal's
-/// number, in the order "8, 4, 5, 1, 3". "A refusal returns its number and the
-/// old state. Nothing lent is written."
+/// The sink fed one unit: the new state and the answer, or the refusal, in the
+/// order "8, 4, 5, 1, 3", 20 and 21 "in the place of 5". "A refusal returns its
+/// number and the old state. Nothing lent is written."
 #[inline(always)]
 pub fn sink(
     shape: Shape,
@@ -181,27 +183,27 @@ pub fn sink(
     held: &mut [u8],
     done: &mut [u8],
     note: Note,
-) -> Result<(Sink, Answer), u8> {
+) -> Result<(Sink, Answer), Refusal> {
     // 8: "a state number outside its range, or a held count other than the one
     // above"
     if !s.well_formed(shape) {
-        return Err(8);
+        return Err(Refusal::of(8));
     }
     // 4: "expected ... label 00 or FF"
     if expected.label == 0x00 || expected.label == 0xFF {
-        return Err(4);
+        return Err(Refusal::of(4));
     }
-    // 5: "trace character outside 20 to 7E"
-    if expected.trace.iter().any(|character| !(0x20..=0x7E).contains(character)) {
-        return Err(5);
+    // 5, 20, 21: the expected trace
+    if let Some(refusal) = trace_fault(&expected.trace) {
+        return Err(refusal);
     }
     // 1: "unit not 2358 bytes"
     if unit.len() != shape.unit() {
-        return Err(1);
+        return Err(Refusal::of(1));
     }
     // 3: "a ... held or done buffer not 2349 bytes"
     if held.len() != shape.container() || done.len() != shape.container() {
-        return Err(3);
+        return Err(Refusal::of(3));
     }
 
     let mut after = s.clone();

@@ -1,5 +1,28 @@
-//! The trace: the check of its message, the start byte that carries it, and
-//! whether a message is good.
+//! The trace: the refusals of its characters, the check of its message, the
+//! start byte that carries it, and whether a message is good.
+
+use super::refusal::Refusal;
+
+/// The first fault of a trace that is expected, sent or listed, if it has one: "5
+/// below, 20 above, 21 all spaces". "The first two name the place from 1";
+/// "among characters the earliest decides".
+#[inline]
+pub fn trace_fault(trace: &[u8; 15]) -> Option<Refusal> {
+    for (index, character) in trace.iter().enumerate() {
+        match character {
+            // 5: "below 20"
+            0x00..=0x1F => return Some(Refusal::at(5, index + 1)),
+            0x20..=0x7E => {}
+            // 20: "above 7E"
+            0x7F..=0xFF => return Some(Refusal::at(20, index + 1)),
+        }
+    }
+    // 21: "all spaces, which nobody means"
+    if *trace == [b' '; 15] {
+        return Some(Refusal::of(21));
+    }
+    None
+}
 
 /// "x^7 + x^3 + 1", highest power first.
 const DIVISOR: [bool; 8] = [true, false, false, false, true, false, false, true];

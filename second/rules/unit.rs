@@ -1,6 +1,7 @@
 //! Units: the source that writes one out of the current container and the next.
 
 use super::counts::{up, LONGEST_WAIT};
+use super::refusal::Refusal;
 use super::shape::Shape;
 use super::word::{decrement_word, increment_word, plain_word};
 
@@ -37,8 +38,8 @@ impl UnitSource {
 }
 
 /// Writes one unit out of "the current container and the next, and says how
-/// many of them ended"; the refusal's number otherwise, in the order "8, 3, 1,
-/// 7". A refused call is no unit.
+/// many of them ended"; the refusal otherwise, in the order "8, 3, 1, 7". A
+/// refused call is no unit.
 #[inline(always)]
 pub fn unit_source(
     shape: Shape,
@@ -47,22 +48,22 @@ pub fn unit_source(
     current: &[u8],
     next: &[u8],
     unit: &mut [u8],
-) -> Result<(u8, UnitSource), u8> {
+) -> Result<(u8, UnitSource), Refusal> {
     // 8: "a state number outside its range"
     if s.offset > shape.last_value() || s.wait > LONGEST_WAIT {
-        return Err(8);
+        return Err(Refusal::of(8));
     }
     // 3: "a container ... not 2349 bytes", be it sent or not
     if current.len() != shape.container() || next.len() != shape.container() {
-        return Err(3);
+        return Err(Refusal::of(3));
     }
     // 1: "unit not 2358 bytes"
     if unit.len() != shape.unit() {
-        return Err(1);
+        return Err(Refusal::of(1));
     }
     // 7: "adjustment asked with fewer than three units since the last"
     if asked != Asked::Nothing && s.wait < LONGEST_WAIT {
-        return Err(7);
+        return Err(Refusal::of(7));
     }
 
     // "The source sends the inverted word in the unit of the adjustment and the

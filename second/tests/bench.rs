@@ -140,7 +140,7 @@ fn marks_and_carriage_returns() {
     assert_eq!(ran("parity\r\nparity 01\r\nparity 02 \r\n#\r\n\r\n \r\nparity 03\r"), "parity 00\nparity 01\nparity 02\nparity 03\n");
     assert_eq!(ran("parity\r\r\nparity \r \n\rparity\nparity\r#\n\r\r\n# \r \r\r\n"), "? 1\n? 2\n? 3\n? 4\n? 5\n");
     // Dropped before quotes are looked at.
-    assert_eq!(ran("rx 12 \"\" \"\r\nrx 12 \"\r\" 0\nrx 12 \"\" 0\r\n"), "? 1\nrx refused 5\n");
+    assert_eq!(ran("rx 12 \"\" \"\r\nrx 12 \"\r\" 0\nrx 12 \"a\" 0\r\n"), "? 1\nrx refused 5 1\n");
 }
 
 #[test]
@@ -259,32 +259,65 @@ fn settings_that_will_be_refused() {
         (format!("tx 12 {quoted} 8 1"), ""),
         (format!("tx 00 {quoted} 0 0"), "tx refused 4\n"),
         (format!("tx fF {quoted} 9 0"), "tx refused 4\n"),
-        ("tx 12 \"a\tb\" 0 0".to_string(), "tx refused 5\n"),
-        ("tx 12 \"\x7F\" 255 0".to_string(), "tx refused 5\n"),
+        ("tx 12 \"a\tb\" 0 0".to_string(), "tx refused 5 2\n"),
+        ("tx 12 \"\x7F\" 255 0".to_string(), "tx refused 20 1\n"),
+        ("tx 12 \"\" 255 0".to_string(), "tx refused 21\n"),
+        ("tx 12 \"               \" 0 0".to_string(), "tx refused 21\n"),
         (format!("tx 00 \"\x7F\" 255 0 # {quoted}"), "tx refused 4\n"),
+        ("tx 00 \"\" 255 0".to_string(), "tx refused 4\n"),
         (format!("tx 12 {quoted} 9 0"), "tx refused 6\n"),
         (format!("tx 12 {quoted} 255 1"), "tx refused 6\n"),
-        ("tx 12 1F2020202020202020202020202020 0 0".to_string(), "tx refused 5\n"),
+        ("tx 12 1F2020202020202020202020202020 0 0".to_string(), "tx refused 5 1\n"),
         (format!("rx 12 {quoted} 15"), ""),
         (format!("rx 00 {quoted} 15"), "rx refused 4\n"),
         ("rx FF \"\u{e9}\" 0".to_string(), "rx refused 4\n"),
-        ("rx FE \"\u{e9}\" 0".to_string(), "rx refused 5\n"),
-        ("rx 01 2020202020202020202020202020a0 0".to_string(), "rx refused 5\n"),
+        ("rx FF \"\" 0".to_string(), "rx refused 4\n"),
+        ("rx FE \"\u{e9}\" 0".to_string(), "rx refused 20 1\n"),
+        ("rx 01 \"\" 0".to_string(), "rx refused 21\n"),
+        ("rx 01 2020202020202020202020202020a0 0".to_string(), "rx refused 20 15\n"),
+        ("rx 01 20202020202020202020202020207F 0".to_string(), "rx refused 20 15\n"),
+        ("rx 01 202020202020202020202020202000 0".to_string(), "rx refused 5 15\n"),
+        ("rx 01 202020202020202020202020202020 0".to_string(), "rx refused 21\n"),
+        ("rx 01 202020202020202020202020202021 0".to_string(), ""),
+        ("rx 01 30801F352020202020202020202020 0".to_string(), "rx refused 20 2\n"),
     ] {
         assert_eq!(ran(&line), want, "{line:?}");
     }
     // Taken all the same.
     assert_eq!(
-        ran("tx 12 \"\" 9 0\nsrc -\nrx 00 \"\" 0\nlen 0\nsink\nfresh\nsrc d\nsink\n"),
+        ran("tx 12 \"a\" 9 0\nsrc -\nrx 00 \"\" 0\nlen 0\nsink\nfresh\nsrc d\nsink\n"),
         "tx refused 6\ncontainer refused 6\nrx refused 4\nrefused 4\ncontainer refused 6\nrefused 4\n"
     );
+    // The calls name the places too.
+    assert_eq!(
+        ran("tx 12 \"a\x1F\x7F\" 9 0\nsrc -\nrx 12 \"\x7F\x1F\" 0\nlen 0\nlens 0 0\nsink\ntx 12 \"\" 9 0\nrx 12 \"\" 0\nrun 1"),
+        "tx refused 5 2\ncontainer refused 5 2\nrx refused 20 1\nrefused 20 1\n\
+         tx refused 21\nrx refused 21\ncontainer refused 21\nrefused 21\n"
+    );
     // And good ones behind them.
-    assert_eq!(ran("tx 12 \"a\" 9 0\nrx 00 \"\" 0\ntx 12 \"a\" 0 0\nrx 12 \"\" 0\nrun 1"), {
-        let text = ran("tx 12 \"a\" 0 0\nrx 12 \"\" 0\nrun 1");
+    assert_eq!(ran("tx 12 \"a\" 9 0\nrx 00 \"\" 0\ntx 12 \"a\" 0 0\nrx 12 \"b\" 0\nrun 1"), {
+        let text = ran("tx 12 \"a\" 0 0\nrx 12 \"b\" 0\nrun 1");
         format!("tx refused 6\nrx refused 4\n{text}")
     });
     // One that is not understood changes nothing.
     assert_eq!(ran("tx 00 \"\" 256 0\nrx 00 \"\" 16\nrun 1"), format!("? 1\n? 2\n{}", ran("run 1")));
+}
+
+#[test]
+fn catalogues_name_the_record_and_the_character() {
+    let record = |circuit: u16, trace: &str| format!("5a4d{circuit:04x}12{trace}0f");
+    let (good, spaces) = (record(1, "303345352020202020202020202020"), "20".repeat(15));
+    let other = record(2, "303345362020202020202020202020");
+    for (trace, want) in [
+        ("30801f352020202020202020202020", "20 3 2"),
+        ("20202020202020202020202020207f", "20 3 15"),
+        ("202020202020202020202020202000", "5 3 15"),
+        (&spaces, "21 3"),
+    ] {
+        let bytes = format!("{good}{other}{}{}", record(3, trace), record(4, &spaces));
+        let printed = format!("cat refused {want}\nlookup refused {want}\nlookup refused {want}\n{want}\n");
+        assert_eq!(ran(format!("cat {bytes}\nlookup 1 {bytes}\nlookup 9 {bytes}\nlist {bytes}\n")), printed);
+    }
 }
 
 #[test]
@@ -295,7 +328,7 @@ fn runs() {
     assert_eq!(ran("run 9999").lines().count(), 2 * 9999);
     // A refused `src` does not end it, nor does a refused `sink`.
     assert_eq!(
-        ran("len 5\ntx 00 \"\" 0 0\nrun 2\nlens 0 0\nrun 1\ntx 12 \"\" 0 0\nrun 1").lines().collect::<Vec<_>>()[..7],
+        ran("len 5\ntx 00 \"\" 0 0\nrun 2\nlens 0 0\nrun 1\ntx 12 \"a\" 0 0\nrun 1").lines().collect::<Vec<_>>()[..7],
         ["tx refused 4", "container refused 4", "refused 1", "container refused 4", "refused 1", "container refused 4", "refused 1"]
     );
     assert!(ran("lens 0 0\nrun 1").ends_with("\nrefused 3\n"));

@@ -25,13 +25,6 @@ fn good(count: usize) -> Vec<u8> {
     bytes
 }
 
-fn refused(number: u8, places: &[usize]) -> Refusal {
-    Refusal {
-        number,
-        places: places.to_vec(),
-    }
-}
-
 #[test]
 fn the_example_of_the_listing() {
     let mut bytes = vec![0x5A, 0x4D, 0x00, 0x07, 0x12];
@@ -97,14 +90,47 @@ fn bounds_of_each_field() {
     assert_eq!(one(1, 0x01, b"A", 0), Ok(1));
     assert_eq!(one(1, 0xFE, b"A", 0), Ok(1));
     assert_eq!(one(1, 0xFF, b"A", 0), Err(refused(4, &[1])));
-    assert_eq!(one(1, 0x12, b"\x1F", 0), Err(refused(5, &[1])));
-    assert_eq!(one(1, 0x12, b"\x20", 0), Ok(1));
+    assert_eq!(one(1, 0x12, b"\x1F", 0), Err(refused(5, &[1, 1])));
+    assert_eq!(one(1, 0x12, b"\x20", 0), Err(refused(21, &[1])));
+    assert_eq!(one(1, 0x12, b"\x20\x21", 0), Ok(1));
     assert_eq!(one(1, 0x12, b"\x7E", 0), Ok(1));
-    assert_eq!(one(1, 0x12, b"\x7F", 0), Err(refused(5, &[1])));
-    assert_eq!(one(1, 0x12, b"ABCDEFGHIJKLMN\x80", 0), Err(refused(5, &[1])));
+    assert_eq!(one(1, 0x12, b"\x7F", 0), Err(refused(20, &[1, 1])));
+    assert_eq!(one(1, 0x12, b"ABCDEFGHIJKLMN\x80", 0), Err(refused(20, &[1, 15])));
     assert_eq!(one(1, 0x12, b"A", 15), Ok(1));
     assert_eq!(one(1, 0x12, b"A", 16), Err(refused(12, &[1])));
     assert_eq!(one(1, 0x12, b"A", 255), Err(refused(12, &[1])));
+}
+
+#[test]
+fn the_record_comes_first_and_then_the_character() {
+    for (trace, refusal) in refused_traces() {
+        let bytes = [good(3), record(4, 0x12, &trace, 0x10), record(0, 0x00, &trace, 0)].concat();
+        let places = [&[4], &refusal.places[..]].concat();
+        assert_eq!(catalogue_check(&bytes), Err(refused(refusal.number, &places)));
+        assert_eq!(lookup(&bytes, 1), Err(refused(refusal.number, &places)));
+    }
+    let listed = |character: u8, place: usize| {
+        let mut bytes = good(5);
+        bytes[3 * RECORD_LENGTH + 5 + place] = character;
+        String::from_utf8(listing(&bytes)).unwrap()
+    };
+    assert_eq!(listed(0xFF, 1), "20 4 2\n");
+    assert_eq!(listed(0x00, 14), "5 4 15\n");
+    let spaces = [good(3), record(4, 0x12, b"", 0)].concat();
+    assert_eq!(listing(&spaces), b"21 4\n");
+}
+
+#[test]
+fn each_character_of_a_listed_trace() {
+    for place in 0..15 {
+        for character in 0..=255 {
+            let mut trace = *b"ABCDEFGHIJKLMNO";
+            trace[place] = character;
+            let bytes = [good(1), record(2, 0x12, &trace, 0)].concat();
+            let answer = refused_at(place, character).map_or(Ok(2), |refusal| Err(refusal.in_record(2)));
+            assert_eq!(catalogue_check(&bytes), answer);
+        }
+    }
 }
 
 #[test]
@@ -119,7 +145,7 @@ fn either_byte_of_the_mark_may_be_wrong() {
 }
 
 #[test]
-fn faults_of_one_record_come_in_the_order_10_11_4_5_12() {
+fn faults_of_one_record_come_in_the_order_10_11_4_trace_12() {
     // The second of three records has every fault; they are put right one
     // by one in the order in which they are named. Before and after, two
     // records share a trace.
@@ -139,7 +165,11 @@ fn faults_of_one_record_come_in_the_order_10_11_4_5_12() {
     bytes[at + 3] = 0x0F;
     assert_eq!(catalogue_check(&bytes), Err(refused(4, &[2])));
     bytes[at + 4] = 0xFE;
-    assert_eq!(catalogue_check(&bytes), Err(refused(5, &[2])));
+    assert_eq!(catalogue_check(&bytes), Err(refused(20, &[2, 1])));
+    bytes[at + 5..at + 7].copy_from_slice(&[0x7E, 0x1F]);
+    assert_eq!(catalogue_check(&bytes), Err(refused(5, &[2, 2])));
+    bytes[at + 5..at + 20].fill(0x20);
+    assert_eq!(catalogue_check(&bytes), Err(refused(21, &[2])));
     bytes[at + 5..at + 20].fill(0x7E);
     assert_eq!(catalogue_check(&bytes), Err(refused(12, &[2])));
     bytes[at + 20] = 0x0F;
@@ -163,6 +193,8 @@ fn the_last_place() {
     let mut bytes = good(512);
     bytes[511 * RECORD_LENGTH + 20] = 16;
     assert_eq!(listing(&bytes), b"12 512\n");
+    bytes[511 * RECORD_LENGTH + 19] = 0x7F;
+    assert_eq!(listing(&bytes), b"20 512 15\n");
 }
 
 #[test]
@@ -180,9 +212,11 @@ fn refusal_13_names_the_earliest_later_with_the_first() {
     assert_eq!(of(&[b"A", b"A", b"A"]), Err(refused(13, &[2, 1])));
     assert_eq!(of(&[b"A", b"B", b"C", b"B", b"A"]), Err(refused(13, &[4, 2])));
     // Spaces are characters like others.
-    assert_eq!(of(&[b"A", b" A", b"  A", b"a", b""]), Ok(5));
+    assert_eq!(of(&[b"A", b" A", b"  A", b"a", b"A !"]), Ok(5));
     assert_eq!(of(&[b"7", b"07", b"007"]), Ok(3));
-    assert_eq!(of(&[b"", b"A", b""]), Err(refused(13, &[3, 1])));
+    assert_eq!(of(&[b"!", b"A", b"!"]), Err(refused(13, &[3, 1])));
+    // Two of spaces alone are refused for that.
+    assert_eq!(of(&[b"A", b"A", b"", b""]), Err(refused(21, &[3])));
 }
 
 #[test]

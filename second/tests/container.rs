@@ -59,7 +59,7 @@ fn b3_is_the_parity_of_the_container_before_its_own_b3_included(shape: Shape) {
 
 over_both!(j1_over_16_containers_is_the_message);
 fn j1_over_16_containers_is_the_message(shape: Shape) {
-    for trace in [padded(b"03E5"), *b"ABCDEFGHIJKLMNO", [0x20; 15], [0x7E; 15]] {
+    for trace in [padded(b"03E5"), *b"ABCDEFGHIJKLMNO", padded(b"!"), [0x7E; 15]] {
         let made = containers(shape, 40, &trace, &mut 6);
         let j1: Vec<u8> = made.iter().map(|container| container[0]).collect();
         assert_eq!(j1[..16], message(&trace));
@@ -96,8 +96,8 @@ fn g1_has_violations_in_bits_1_to_4_and_remote_defect_in_bit_5(shape: Shape) {
     }
 }
 
-over_both!(container_source_refusals_come_in_the_order_8_4_5_2_3_6);
-fn container_source_refusals_come_in_the_order_8_4_5_2_3_6(shape: Shape) {
+over_both!(container_source_refusals_come_in_the_order_8_4_trace_2_3_6);
+fn container_source_refusals_come_in_the_order_8_4_trace_2_3_6(shape: Shape) {
     let (carried, size) = (shape.payload(), shape.container());
     // Every fault at once; they are put right one by one in the order in
     // which they are named.
@@ -124,26 +124,28 @@ fn container_source_refusals_come_in_the_order_8_4_5_2_3_6(shape: Shape) {
         answer
     };
 
-    assert_eq!(ask(state, given, &trace, &payload, size + 1), Err(8));
+    assert_eq!(ask(state, given, &trace, &payload, size + 1), Err(refused(8, &[])));
     state.place = 15;
-    assert_eq!(ask(state, given, &trace, &payload, size + 1), Err(4));
+    assert_eq!(ask(state, given, &trace, &payload, size + 1), Err(refused(4, &[])));
     given.label = 0xFF;
-    assert_eq!(ask(state, given, &trace, &payload, size + 1), Err(4));
+    assert_eq!(ask(state, given, &trace, &payload, size + 1), Err(refused(4, &[])));
     given.label = 0xFE;
-    assert_eq!(ask(state, given, &trace, &payload, size + 1), Err(5));
+    assert_eq!(ask(state, given, &trace, &payload, size + 1), Err(refused(20, &[15])));
     trace[14] = 0x1F;
-    assert_eq!(ask(state, given, &trace, &payload, size + 1), Err(5));
+    assert_eq!(ask(state, given, &trace, &payload, size + 1), Err(refused(5, &[15])));
+    trace.fill(0x20);
+    assert_eq!(ask(state, given, &trace, &payload, size + 1), Err(refused(21, &[])));
     trace[14] = 0x7E;
-    assert_eq!(ask(state, given, &trace, &payload, size + 1), Err(2));
+    assert_eq!(ask(state, given, &trace, &payload, size + 1), Err(refused(2, &[])));
     payload.resize(carried + 1, 0x33);
-    assert_eq!(ask(state, given, &trace, &payload, size + 1), Err(2));
+    assert_eq!(ask(state, given, &trace, &payload, size + 1), Err(refused(2, &[])));
     payload.resize(carried, 0x33);
-    assert_eq!(ask(state, given, &trace, &payload, size + 1), Err(3));
-    assert_eq!(ask(state, given, &trace, &payload, size - 1), Err(3));
-    assert_eq!(ask(state, given, &trace, &payload, 0), Err(3));
-    assert_eq!(ask(state, given, &trace, &payload, size), Err(6));
+    assert_eq!(ask(state, given, &trace, &payload, size + 1), Err(refused(3, &[])));
+    assert_eq!(ask(state, given, &trace, &payload, size - 1), Err(refused(3, &[])));
+    assert_eq!(ask(state, given, &trace, &payload, 0), Err(refused(3, &[])));
+    assert_eq!(ask(state, given, &trace, &payload, size), Err(refused(6, &[])));
     given.violations = 255;
-    assert_eq!(ask(state, given, &trace, &payload, size), Err(6));
+    assert_eq!(ask(state, given, &trace, &payload, size), Err(refused(6, &[])));
     given.violations = 8;
     let after = ask(state, given, &trace, &payload, size).unwrap();
     assert_eq!(after.place, 0);
@@ -161,31 +163,34 @@ fn each_container_source_refusal_alone(shape: Shape) {
     let good = padded(b"A");
     assert_eq!(ask(fresh, GIVEN, &good, carried, size), Ok(()));
     for place in 0..=255 {
-        let answer = if place <= 15 { Ok(()) } else { Err(8) };
+        let answer = if place <= 15 { Ok(()) } else { Err(refused(8, &[])) };
         for parity in [0x00, 0x5A, 0xFF] {
             assert_eq!(ask(ContainerSource { place, parity }, GIVEN, &good, carried, size), answer);
         }
     }
     for label in 0..=255 {
-        let answer = if (1..=254).contains(&label) { Ok(()) } else { Err(4) };
+        let answer = if (1..=254).contains(&label) { Ok(()) } else { Err(refused(4, &[])) };
         assert_eq!(ask(fresh, Given { label, ..GIVEN }, &good, carried, size), answer);
     }
     for place in 0..15 {
         for character in 0..=255 {
-            let mut trace = good;
+            let mut trace = *b"ABCDEFGHIJKLMNO";
             trace[place] = character;
-            let answer = if (0x20..=0x7E).contains(&character) { Ok(()) } else { Err(5) };
+            let answer = refused_at(place, character).map_or(Ok(()), Err);
             assert_eq!(ask(fresh, GIVEN, &trace, carried, size), answer);
         }
     }
+    for (trace, refusal) in refused_traces() {
+        assert_eq!(ask(fresh, GIVEN, &trace, carried, size), Err(refusal));
+    }
     for length in [0, 1, carried - 1, carried + 1, size] {
-        assert_eq!(ask(fresh, GIVEN, &good, length, size), Err(2));
+        assert_eq!(ask(fresh, GIVEN, &good, length, size), Err(refused(2, &[])));
     }
     for length in [0, 1, carried, size - 1, size + 1, shape.unit()] {
-        assert_eq!(ask(fresh, GIVEN, &good, carried, length), Err(3));
+        assert_eq!(ask(fresh, GIVEN, &good, carried, length), Err(refused(3, &[])));
     }
     for violations in 0..=255 {
-        let answer = if violations <= 8 { Ok(()) } else { Err(6) };
+        let answer = if violations <= 8 { Ok(()) } else { Err(refused(6, &[])) };
         assert_eq!(ask(fresh, Given { violations, ..GIVEN }, &good, carried, size), answer);
     }
 }
@@ -221,8 +226,8 @@ fn the_payload_call_refuses_3_then_2(shape: Shape) {
                 let answer = payload_call(shape, &vec![0x33; container], ais, &mut payload);
                 let expected = match (container == size, length == carried) {
                     (true, true) => Ok(()),
-                    (true, false) => Err(2),
-                    (false, _) => Err(3),
+                    (true, false) => Err(refused(2, &[])),
+                    (false, _) => Err(refused(3, &[])),
                 };
                 assert_eq!(answer, expected);
                 if answer.is_err() {

@@ -32,6 +32,40 @@ mod trace;
 mod unit;
 mod word;
 
+/// A refusal with the places that it names.
+fn refused(number: u8, places: &[usize]) -> Refusal {
+    Refusal {
+        number,
+        places: places.to_vec(),
+    }
+}
+
+/// The table of traces that are refused, each with its number and its place.
+fn refused_traces() -> [([u8; 15], Refusal); 4] {
+    let with = |mut trace: [u8; 15], changed: &[(usize, u8)]| {
+        for (place, character) in changed {
+            trace[place - 1] = *character;
+        }
+        trace
+    };
+    [
+        (with(padded(b"03E5"), &[(3, 0x1F), (2, 0x80)]), refused(20, &[2])),
+        ([0x20; 15], refused(21, &[])),
+        (with([0x20; 15], &[(15, 0x7F)]), refused(20, &[15])),
+        (with([0x20; 15], &[(15, 0x00)]), refused(5, &[15])),
+    ]
+}
+
+/// How a trace is refused that has this character at this place, counted from 0,
+/// and is good otherwise.
+fn refused_at(place: usize, character: u8) -> Option<Refusal> {
+    match character {
+        0x00..=0x1F => Some(refused(5, &[place + 1])),
+        0x20..=0x7E => None,
+        0x7F..=0xFF => Some(refused(20, &[place + 1])),
+    }
+}
+
 /// 15 characters, "padded with spaces".
 fn padded(text: &[u8]) -> [u8; 15] {
     let mut trace = [b' '; 15];

@@ -168,7 +168,7 @@ fn at_0(without: u8) -> Sink {
 
 over_both!(label_and_defects_by_five);
 fn label_and_defects_by_five(shape: Shape) {
-    let expected = expects(&padded(b""));
+    let expected = expects(&padded(b"A"));
     let mut s = at_0(0);
     for _ in 0..4 {
         assert_eq!(feed(shape, &mut s, &expected, 0, 0x13, 0x08).defects, [false; 4]);
@@ -238,11 +238,24 @@ fn messages_and_the_count_to_48(shape: Shape) {
     assert_eq!((s.without, s.message_run), (0, 1));
 }
 
-over_both!(sink_refusals_come_in_the_order_8_4_5_1_3);
-fn sink_refusals_come_in_the_order_8_4_5_1_3(shape: Shape) {
+over_both!(a_trace_that_comes_is_not_refused);
+fn a_trace_that_comes_is_not_refused(shape: Shape) {
+    for trace in [[0x20; 15], [0x00; 15], [0x7F; 15]] {
+        let mut s = at_0(0);
+        for j1 in message(&trace).repeat(3) {
+            assert!(!s.tim);
+            feed(shape, &mut s, &expects(&padded(b"03E5")), j1, 0x12, 0);
+        }
+        assert!(s.tim);
+        assert_eq!(s.accepted_trace, Some(trace));
+    }
+}
+
+over_both!(sink_refusals_come_in_the_order_8_4_trace_1_3);
+fn sink_refusals_come_in_the_order_8_4_trace_1_3(shape: Shape) {
     let (last, size, full) = (shape.last_value(), shape.container(), shape.unit());
     let ask = |s: &Sink, label, character, unit: usize, held: usize, done: usize| {
-        let mut expected = expects(&padded(b"A"));
+        let mut expected = expects(&padded(b""));
         expected.label = label;
         expected.trace[7] = character;
         let (mut h, mut d) = (vec![0x77; held], vec![0x88; done]);
@@ -250,21 +263,23 @@ fn sink_refusals_come_in_the_order_8_4_5_1_3(shape: Shape) {
         if answer.is_err() {
             assert!(h.iter().all(|byte| *byte == 0x77) && d.iter().all(|byte| *byte == 0x88));
         }
-        answer.err().unwrap_or(0)
+        answer.err().unwrap_or(refused(0, &[]))
     };
     let good = at_0(0);
     let bad = Sink { held: 3, ..at_0(0) };
-    assert_eq!(ask(&bad, 0x00, 0x1F, full - 1, size - 1, size + 1), 8);
-    assert_eq!(ask(&good, 0x00, 0x1F, full - 1, size - 1, size + 1), 4);
-    assert_eq!(ask(&good, 0xFF, 0x1F, full - 1, size - 1, size + 1), 4);
-    assert_eq!(ask(&good, 0xFE, 0x1F, full - 1, size - 1, size + 1), 5);
-    assert_eq!(ask(&good, 0xFE, 0x7F, full - 1, size - 1, size + 1), 5);
-    assert_eq!(ask(&good, 0xFE, 0x7E, full - 1, size - 1, size + 1), 1);
-    assert_eq!(ask(&good, 0xFE, 0x7E, full, size - 1, size + 1), 3);
-    assert_eq!(ask(&good, 0xFE, 0x7E, full, size, size + 1), 3);
-    assert_eq!(ask(&good, 0xFE, 0x7E, full, size - 1, size), 3);
-    assert_eq!(ask(&good, 0xFE, 0x7E, full, size, size), 0);
-    let eight = |s: Sink| ask(&s, 0x12, 0x20, full, size, size);
+    assert_eq!(ask(&bad, 0x00, 0x1F, full - 1, size - 1, size + 1), refused(8, &[]));
+    assert_eq!(ask(&good, 0x00, 0x1F, full - 1, size - 1, size + 1), refused(4, &[]));
+    assert_eq!(ask(&good, 0xFF, 0x7F, full - 1, size - 1, size + 1), refused(4, &[]));
+    assert_eq!(ask(&good, 0xFF, 0x20, full - 1, size - 1, size + 1), refused(4, &[]));
+    assert_eq!(ask(&good, 0xFE, 0x1F, full - 1, size - 1, size + 1), refused(5, &[8]));
+    assert_eq!(ask(&good, 0xFE, 0x7F, full - 1, size - 1, size + 1), refused(20, &[8]));
+    assert_eq!(ask(&good, 0xFE, 0x20, full - 1, size - 1, size + 1), refused(21, &[]));
+    assert_eq!(ask(&good, 0xFE, 0x7E, full - 1, size - 1, size + 1), refused(1, &[]));
+    assert_eq!(ask(&good, 0xFE, 0x7E, full, size - 1, size + 1), refused(3, &[]));
+    assert_eq!(ask(&good, 0xFE, 0x7E, full, size, size + 1), refused(3, &[]));
+    assert_eq!(ask(&good, 0xFE, 0x7E, full, size - 1, size), refused(3, &[]));
+    assert_eq!(ask(&good, 0xFE, 0x7E, full, size, size), refused(0, &[]));
+    let eight = |s: Sink| ask(&s, 0x12, 0x41, full, size, size).number;
     let pointer = |pointer| Sink { pointer, ..Sink::fresh() };
     let p = PointerReader::fresh();
     assert_eq!(eight(pointer(PointerReader { alarm_words: 4, ..p })), 8);
@@ -286,12 +301,32 @@ fn sink_refusals_come_in_the_order_8_4_5_1_3(shape: Shape) {
     assert_eq!(eight(at_0(49)), 8);
 }
 
+over_both!(each_character_of_an_expected_trace);
+fn each_character_of_an_expected_trace(shape: Shape) {
+    let ask = |trace: &[u8; 15]| {
+        let (mut held, mut done) = (vec![0; shape.container()], vec![0; shape.container()]);
+        let unit = vec![0; shape.unit()];
+        sink(shape, &Sink::fresh(), &expects(trace), &unit, &mut held, &mut done, &mut quiet()).err()
+    };
+    for place in 0..15 {
+        for character in 0..=255 {
+            let mut trace = *b"ABCDEFGHIJKLMNO";
+            trace[place] = character;
+            assert_eq!(ask(&trace), refused_at(place, character));
+        }
+    }
+    for (trace, refusal) in refused_traces() {
+        assert_eq!(ask(&trace), Some(refusal));
+    }
+}
+
 #[test]
 fn what_has_the_lengths_of_the_other_shape_is_refused() {
     let ask = |shape: Shape, of: Shape, buffers: Shape| {
         let (mut held, mut done) = (vec![0; buffers.container()], vec![0; buffers.container()]);
         let (unit, expected) = (vec![0; of.unit()], expects(&padded(b"A")));
-        sink(shape, &Sink::fresh(), &expected, &unit, &mut held, &mut done, &mut quiet()).err()
+        let answer = sink(shape, &Sink::fresh(), &expected, &unit, &mut held, &mut done, &mut quiet());
+        answer.err().map(|refusal| refusal.number)
     };
     for (shape, other) in [(AU4, TU3), (TU3, AU4)] {
         assert_eq!(ask(shape, other, other), Some(1));

@@ -1,4 +1,5 @@
-//! Parity, and the trace: remainders, start bytes, good messages.
+//! Parity, and the trace: its first fault, remainders, start bytes, good
+//! messages.
 
 use super::*;
 
@@ -13,6 +14,58 @@ fn parity_is_the_exclusive_or() {
     assert_eq!(parity(&[0xF0, 0x3C, 0x01]), 0xCD);
     assert_eq!(parity(&[0xFF; 2349]), 0xFF);
     assert_eq!(parity(&[0xFF; 2358]), 0x00);
+}
+
+#[test]
+fn the_table_of_refused_traces() {
+    for (trace, refusal) in refused_traces() {
+        assert_eq!(trace_fault(&trace), Some(refusal));
+    }
+}
+
+#[test]
+fn one_character_below_or_above() {
+    for around in [0x20, 0x21, 0x7E] {
+        for place in 0..15 {
+            for character in 0..=255 {
+                let mut trace = [around; 15];
+                trace[place] = character;
+                let spaces = around == 0x20 && character == 0x20;
+                let fault = if spaces { Some(refused(21, &[])) } else { refused_at(place, character) };
+                assert_eq!(trace_fault(&trace), fault);
+            }
+        }
+    }
+}
+
+#[test]
+fn of_two_characters_the_earlier_decides() {
+    for (first, second) in [(0x00, 0xFF), (0xFF, 0x00), (0x1F, 0x7F), (0x80, 0x1F), (0x1F, 0x00), (0x7F, 0xFF)] {
+        for earlier in 0..15 {
+            for later in earlier + 1..15 {
+                let mut trace = padded(b"03E5");
+                (trace[earlier], trace[later]) = (first, second);
+                assert_eq!(trace_fault(&trace), refused_at(earlier, first));
+            }
+        }
+    }
+}
+
+#[test]
+fn spaces_but_for_one_character() {
+    for place in 0..15 {
+        let mut trace = [0x20; 15];
+        trace[place] = 0x21;
+        assert_eq!(trace_fault(&trace), None);
+    }
+}
+
+#[test]
+fn a_refusal_is_printed_with_a_blank_before_each_place() {
+    assert_eq!(refused(21, &[]).to_string(), "21");
+    assert_eq!(refused(5, &[3]).to_string(), "5 3");
+    assert_eq!(refused(20, &[15]).in_record(4).to_string(), "20 4 15");
+    assert_eq!(refused(21, &[]).in_record(4).to_string(), "21 4");
 }
 
 #[test]

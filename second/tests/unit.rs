@@ -143,40 +143,40 @@ fn unit_source_refusals_come_in_the_order_8_3_1_7(shape: Shape) {
         answer
     };
     for asked in [Asked::Increment, Asked::Decrement] {
-        assert_eq!(ask(last + 1, 4, asked, size - 1, size + 1, full - 1), Err(8));
-        assert_eq!(ask(last, 4, asked, size - 1, size + 1, full - 1), Err(8));
-        assert_eq!(ask(last + 1, 2, asked, size - 1, size + 1, full - 1), Err(8));
-        assert_eq!(ask(last, 2, asked, size - 1, size + 1, full - 1), Err(3));
-        assert_eq!(ask(last, 2, asked, size, size + 1, full - 1), Err(3));
-        assert_eq!(ask(last, 2, asked, size - 1, size, full - 1), Err(3));
-        assert_eq!(ask(last, 2, asked, size, size, full - 1), Err(1));
-        assert_eq!(ask(last, 2, asked, size, size, full + 1), Err(1));
-        assert_eq!(ask(last, 2, asked, size, size, full), Err(7));
+        assert_eq!(ask(last + 1, 4, asked, size - 1, size + 1, full - 1), Err(refused(8, &[])));
+        assert_eq!(ask(last, 4, asked, size - 1, size + 1, full - 1), Err(refused(8, &[])));
+        assert_eq!(ask(last + 1, 2, asked, size - 1, size + 1, full - 1), Err(refused(8, &[])));
+        assert_eq!(ask(last, 2, asked, size - 1, size + 1, full - 1), Err(refused(3, &[])));
+        assert_eq!(ask(last, 2, asked, size, size + 1, full - 1), Err(refused(3, &[])));
+        assert_eq!(ask(last, 2, asked, size - 1, size, full - 1), Err(refused(3, &[])));
+        assert_eq!(ask(last, 2, asked, size, size, full - 1), Err(refused(1, &[])));
+        assert_eq!(ask(last, 2, asked, size, size, full + 1), Err(refused(1, &[])));
+        assert_eq!(ask(last, 2, asked, size, size, full), Err(refused(7, &[])));
         assert!(ask(last, 3, asked, size, size, full).is_ok());
     }
     // Each alone.
     let plain = Asked::Nothing;
     for offset in [last + 1, last + 2, 1023, 1024, 65_535] {
-        assert_eq!(ask(offset, 3, plain, size, size, full), Err(8));
+        assert_eq!(ask(offset, 3, plain, size, size, full), Err(refused(8, &[])));
     }
     for wait in 4..=255 {
-        assert_eq!(ask(0, wait, plain, size, size, full), Err(8));
+        assert_eq!(ask(0, wait, plain, size, size, full), Err(refused(8, &[])));
     }
     for length in [0, 1, shape.payload(), size - 1, size + 1, full] {
-        assert_eq!(ask(5, 3, plain, length, size, full), Err(3));
-        assert_eq!(ask(5, 3, plain, size, length, full), Err(3));
+        assert_eq!(ask(5, 3, plain, length, size, full), Err(refused(3, &[])));
+        assert_eq!(ask(5, 3, plain, size, length, full), Err(refused(3, &[])));
         // None of the next one is sent here, and yet it is checked.
-        assert_eq!(ask(0, 3, plain, size, length, full), Err(3));
+        assert_eq!(ask(0, 3, plain, size, length, full), Err(refused(3, &[])));
     }
     for length in [0, 1, shape.head(), size, full - 1, full + 1] {
-        assert_eq!(ask(5, 3, plain, size, size, length), Err(1));
+        assert_eq!(ask(5, 3, plain, size, size, length), Err(refused(1, &[])));
     }
     for wait in 0..=3 {
         assert!(ask(5, wait, plain, size, size, full).is_ok());
         for asked in [Asked::Increment, Asked::Decrement] {
             let answer = ask(5, wait, asked, size, size, full);
             assert_eq!(answer.is_ok(), wait == 3);
-            assert_eq!(answer.err(), if wait == 3 { None } else { Some(7) });
+            assert_eq!(answer.err(), if wait == 3 { None } else { Some(refused(7, &[])) });
         }
     }
 }
@@ -193,8 +193,8 @@ fn an_adjustment_and_three_units_between(shape: Shape) {
         state = ask(state, asked).unwrap();
         assert_eq!(state.wait, 0);
         for wait in 1..=3 {
-            assert_eq!(ask(state, Asked::Increment), Err(7));
-            assert_eq!(ask(state, Asked::Decrement), Err(7));
+            assert_eq!(ask(state, Asked::Increment), Err(refused(7, &[])));
+            assert_eq!(ask(state, Asked::Decrement), Err(refused(7, &[])));
             state = ask(state, Asked::Nothing).unwrap();
             assert_eq!(state.wait, wait);
         }
@@ -222,7 +222,7 @@ fn the_bytes_carried_are_the_containers_joined(shape: Shape) {
             };
             let mut unit = vec![0xEE; shape.unit()];
             let answer = unit_source(shape, state, asked, &made[current], &made[current + 1], &mut unit);
-            if answer == Err(7) {
+            if answer == Err(refused(7, &[])) {
                 assert!(state.wait < 3);
                 // "A refusal returns ... the old state": the unit is asked
                 // for again without.
