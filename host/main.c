@@ -4,8 +4,9 @@
  *     parity HEX   ->  parity HH
  *     check HEX    ->  check 0, or check 1 for a good trace message
  *     read HEX     ->  read N
- *     settings HEX ->  settings N: a label and a trace, and the number by which
- *                      every call with them will be refused, 0 for none
+ *     settings HEX ->  settings N P: a label and a trace, the number by which
+ *                      every call with them will be refused, 0 for none, and
+ *                      the place of the character that it names, 0 for none
  *
  * HEX is any number of bytes, two hex digits each, none at all included, but
  * for `settings`, which has a label at least. A
@@ -67,9 +68,10 @@ static bool answer(const char *line)
         printf("check %d\n", card_trace_check(bytes, (size_t)length) ? 1 : 0);
     else if ((hex = after(line, "read")) != NULL && (length = bytes_of(hex, bytes)) >= 0)
         printf("read %u\n", (unsigned)card_word_reading(bytes, (size_t)length));
-    else if ((hex = after(line, "settings")) != NULL && (length = bytes_of(hex, bytes)) >= 1)
-        printf("settings %u\n", (unsigned)card_settings_check(bytes[0], bytes + 1, (size_t)length - 1));
-    else
+    else if ((hex = after(line, "settings")) != NULL && (length = bytes_of(hex, bytes)) >= 1) {
+        struct card_refusal refusal = card_settings_check(bytes[0], bytes + 1, (size_t)length - 1);
+        printf("settings %u %zu\n", (unsigned)refusal.number, refusal.place);
+    } else
         return false;
     return true;
 }

@@ -5,7 +5,8 @@
  *     uint8_t  card_parity(const uint8_t *bytes, size_t length);
  *     bool     card_trace_check(const uint8_t *bytes, size_t length);
  *     uint16_t card_word_reading(const uint8_t *bytes, size_t length);
- *     uint8_t  card_settings_check(uint8_t label, const uint8_t *trace,
+ *     struct card_refusal
+ *              card_settings_check(uint8_t label, const uint8_t *trace,
  *                                  size_t length);
  *
  * Each takes a pointer and a length, reads those bytes and nothing else,
@@ -73,13 +74,24 @@ bool card_trace_check(const uint8_t *bytes, size_t length);
  * Of any length but 2: 0. (So is 00 00 with SS 00: a NDF that is neither.) */
 uint16_t card_word_reading(const uint8_t *bytes, size_t length);
 
+/* A refusal: its number, 0 for none; and the place of the trace's character
+ * that it names, 1 to 15, 0 where it names none. */
+struct card_refusal {
+    uint8_t number;
+    size_t place;
+};
+
 /* Whether a path can be set to this label and this trace, as sent or as
- * expected: 0, or the number by which every call with them will be refused.
- *     4  label 00 or FF
- *     5  a trace character outside 20 to 7E, or not 15 of them: pad a short
- *        trace with spaces, as it is compared with all of them
- * Where both are so: 4. */
-uint8_t card_settings_check(uint8_t label, const uint8_t *trace, size_t length);
+ * expected: number 0, or the number by which every call with them will be
+ * refused, the first of these that is so:
+ *      4  label 00 or FF
+ *      5  at place 0: not 15 characters. Pad a short trace with spaces, as it
+ *         is compared with all of them
+ *      5  a character below 20, at its place
+ *     20  a character above 7E, at its place. Of 5 and 20 the earliest
+ *         character decides
+ *     21  all 15 are spaces */
+struct card_refusal card_settings_check(uint8_t label, const uint8_t *trace, size_t length);
 
 /* The same for a pointer that may be NULL. */
 
@@ -100,7 +112,7 @@ static inline uint16_t card_host_word_reading(const uint8_t *bytes, size_t lengt
     return bytes != NULL ? card_word_reading(bytes, length) : card_word_reading(&card_host_none, 0);
 }
 
-static inline uint8_t card_host_settings_check(uint8_t label, const uint8_t *trace, size_t length)
+static inline struct card_refusal card_host_settings_check(uint8_t label, const uint8_t *trace, size_t length)
 {
     return trace != NULL ? card_settings_check(label, trace, length) : card_settings_check(label, &card_host_none, 0);
 }

@@ -19,7 +19,7 @@ mod second;
 
 use bench::words::next_line;
 use bench::{Bench, Command};
-use proved::c::{Accepted, Defect, Flags, Gathered, Monitor, Parity, Plain, Rows, Run, Settings, Shown, Trace, Watch};
+use proved::c::{Accepted, Defect, Flags, Gathered, Monitor, Parity, Plain, Refusal, Rows, Run, Settings, Shown, Trace, Watch};
 use random::Random;
 use second::coverage::{Counts, NAMES};
 use second::{Asked, Ended, Pointer, Sink, AU4};
@@ -130,9 +130,14 @@ fn names<const N: usize>(list: [(bool, &str); N]) -> String {
     if those.is_empty() { "-".to_string() } else { those.join(",") }
 }
 
+/// The refusal of a call of the proved sink, its place too.
+fn refusal(s: &Shown) -> Refusal {
+    Refusal { number: s.number, place: s.place }
+}
+
 fn told(s: &Shown) -> String {
     if s.number != 0 {
-        return format!("refused {}", s.number);
+        return format!("refused {}", refusal(s));
     }
     let p = &s.state;
     let (state, offset) = match p.kind {
@@ -173,17 +178,10 @@ fn told(s: &Shown) -> String {
     text
 }
 
-/// The number alone of a refusal that the second program's bench printed: the proved calls are not asked for the places here.
-fn numbered(line: &str) -> &str {
-    let number = line.find("refused ").map_or(line.len(), |at| at + "refused ".len());
-    let length = line[number..].find(' ').unwrap_or(line.len() - number);
-    &line[..number + length]
-}
-
 /// The same of a line that the second program's bench printed.
 fn printed(line: &str) -> String {
     let mut words = Vec::new();
-    for word in numbered(line).split_whitespace() {
+    for word in line.split_whitespace() {
         if word.starts_with("hb=") || word.starts_with("db=") {
             continue;
         }
@@ -261,12 +259,12 @@ impl Load {
         let mut answer = String::new();
         while card.queue.len() < 2 {
             let mut container = vec![0; AU4.container()];
-            let (number, after) = proved::container_source(card.containers, given, &b.sent_trace, &bench::payload(card.seed), &mut container);
+            let (refusal, after) = proved::container_source(card.containers, given, &b.sent_trace, &bench::payload(card.seed), &mut container);
             self.calls += 1;
-            if number != 0 {
+            if refusal.number != 0 {
                 self.same("the state after a refused container", card.containers, after);
                 self.same_bytes("the room for a refused container", &vec![0; AU4.container()], &container);
-                answer = format!("container refused {number}");
+                answer = format!("container refused {refusal}");
                 break;
             }
             card.containers = after;
@@ -283,7 +281,7 @@ impl Load {
             card.queue.drain(..usize::from(ended));
             answer = if number != 0 { format!("unit refused {number}") } else { format!("unit ended={ended} off={}", after.0) };
         }
-        let words: Vec<&str> = numbered(said).split_whitespace().filter(|w| !w.starts_with("word=") && !w.starts_with("fnv=")).collect();
+        let words: Vec<&str> = said.split_whitespace().filter(|w| !w.starts_with("word=") && !w.starts_with("fnv=")).collect();
         self.same("the source's answer", words.join(" "), answer);
         self.same("the container source's state", (b.containers.place, b.containers.parity), card.containers);
         self.same("the unit source's state", (b.units.offset, b.units.wait), card.units);
@@ -340,7 +338,7 @@ impl Load {
         self.states += 1;
         match second::sink(AU4, &s, e, &b.line, &mut held_2, &mut done_2, &mut |_| {}) {
             Err(refusal) => {
-                self.same("the refusal of any state", refusal.number, shown.number);
+                self.same("the refusal of any state", refusal.to_string(), crate::refusal(&shown).to_string());
                 self.same("the state after its refusal", given, shown.state);
                 self.refused_8 += u64::from(refusal.number == 8);
             }

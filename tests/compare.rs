@@ -265,8 +265,8 @@ fn catalogues(r: &mut Random, t: &mut Tally) {
     }
 }
 
-/// A label and a trace checked before any call: the number by which the second program's source and its sink refuse them,
-/// asked with nothing else wrong; 5 for any other number of characters, but behind 4.
+/// A label and a trace checked before any call: the number and the place by which the second program's source and its sink refuse
+/// them, asked with nothing else wrong; 5 at no place for any other number of characters, but behind 4.
 fn settings(r: &mut Random, t: &mut Tally) {
     let mut met = [0usize; 22];
     for round in 0..3000 {
@@ -300,14 +300,14 @@ fn settings(r: &mut Random, t: &mut Tally) {
                 let fed = second::sink(second::AU4, &second::Sink::fresh(), &expected, &unit, &mut held, &mut done, &mut |_| {});
                 let (source, sink) = (sent.err(), fed.err());
                 t.same("settings, the second program's source and sink", &|| hex(&trace), &source, &sink);
-                sink.map_or(0, |refusal| refusal.number)
+                sink.map_or((0, "0".to_string()), |refusal| (refusal.number, refusal.to_string()))
             }
-            Err(_) if label == 0x00 || label == 0xFF => 4,
-            Err(_) => 5,
+            Err(_) if label == 0x00 || label == 0xFF => (4, "4".to_string()),
+            Err(_) => (5, "5".to_string()),
         };
         let input = || format!("{label:02X} {}", hex(&characters));
-        t.same("settings", &input, want, proved::settings_check(label, &characters));
-        met[usize::from(want)] += 1;
+        t.same("settings", &input, &want.1, &proved::settings_check(label, &characters).to_string());
+        met[usize::from(want.0)] += 1;
     }
     for number in [0, 4, 5, 20, 21] {
         if met[number] < 100 {

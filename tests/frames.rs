@@ -57,7 +57,7 @@ impl Containers {
             remote: numbers.below(2) == 1,
         };
         let (refusal, state) = proved::container_source(self.state, given, &self.trace, &payload, &mut container);
-        if refusal != 0 {
+        if refusal.number != 0 {
             return Err(format!("container {} was refused with {refusal}", self.made));
         }
         self.state = state;
@@ -126,7 +126,7 @@ fn units(asked_for: Arguments, output: &mut impl Write) -> Result<(), String> {
         let (asked, name) = choose(anywhere, offset, wait, &mut numbers);
         let mut unit = vec![0xEE; UNIT_LENGTH];
         let (refusal, ended, after) = proved::unit_source((offset, wait), asked, &current, &next, &mut unit);
-        if refusal != 0 {
+        if refusal.number != 0 {
             return Err(format!(
                 "unit {number}, {name} at offset {offset} with wait {wait}, was refused with {refusal}"
             ));

@@ -33,11 +33,11 @@ extern "C" {
 uint8_t __real_card_parity(const uint8_t *bytes, size_t length);
 bool __real_card_trace_check(const uint8_t *bytes, size_t length);
 uint16_t __real_card_word_reading(const uint8_t *bytes, size_t length);
-uint8_t __real_card_settings_check(uint8_t label, const uint8_t *trace, size_t length);
+struct card_refusal __real_card_settings_check(uint8_t label, const uint8_t *trace, size_t length);
 uint8_t __wrap_card_parity(const uint8_t *bytes, size_t length);
 bool __wrap_card_trace_check(const uint8_t *bytes, size_t length);
 uint16_t __wrap_card_word_reading(const uint8_t *bytes, size_t length);
-uint8_t __wrap_card_settings_check(uint8_t label, const uint8_t *trace, size_t length);
+struct card_refusal __wrap_card_settings_check(uint8_t label, const uint8_t *trace, size_t length);
 
 uint8_t __wrap_card_parity(const uint8_t *bytes, size_t length)
 {
@@ -54,9 +54,10 @@ uint16_t __wrap_card_word_reading(const uint8_t *bytes, size_t length)
     return watch(bytes, length) ? __real_card_word_reading(bytes, length) : (uint16_t)0;
 }
 
-uint8_t __wrap_card_settings_check(uint8_t label, const uint8_t *trace, size_t length)
+struct card_refusal __wrap_card_settings_check(uint8_t label, const uint8_t *trace, size_t length)
 {
-    return watch(trace, length) ? __real_card_settings_check(label, trace, length) : (uint8_t)0;
+    static const struct card_refusal none = {0, 0};
+    return watch(trace, length) ? __real_card_settings_check(label, trace, length) : none;
 }
 
 #ifdef __cplusplus
@@ -82,14 +83,20 @@ static void made(const char *function, const char *what, size_t answer, size_t w
     tried++;
 }
 
+/* Number and place in one. */
+static size_t both(struct card_refusal refusal)
+{
+    return refusal.number * 1000 + refusal.place;
+}
+
 /* The settings' check on a label that is refused, and on one that is not: the answer is then the trace's. */
 static void settings(const char *what, const uint8_t *bytes, size_t length, size_t there, size_t trace)
 {
-    uint8_t (*by_settings)(uint8_t, const uint8_t *, size_t) = card_settings_check;
+    struct card_refusal (*by_settings)(uint8_t, const uint8_t *, size_t) = card_settings_check;
 
-    made("card_settings_check of 00", what, card_settings_check(0x00, bytes, length), 4, there);
-    made("card_settings_check of 12", what, card_settings_check(0x12, bytes, length), trace, there);
-    made("a pointer to card_settings_check", what, by_settings(0x12, bytes, length), trace, there);
+    made("card_settings_check of 00", what, both(card_settings_check(0x00, bytes, length)), 4000, there);
+    made("card_settings_check of 12", what, both(card_settings_check(0x12, bytes, length)), trace, there);
+    made("a pointer to card_settings_check", what, both(by_settings(0x12, bytes, length)), trace, there);
 }
 
 /* The three on the same bytes, which are no trace. Both ways to call them: by name, and through a pointer. */
@@ -105,7 +112,7 @@ static void all(const char *what, const uint8_t *bytes, size_t length, size_t th
     made("a pointer to card_parity", what, by_parity(bytes, length), parity, there);
     made("a pointer to card_trace_check", what, by_check(bytes, length), check, there);
     made("a pointer to card_word_reading", what, by_reading(bytes, length), reading, there);
-    settings(what, bytes, length, there, 5);
+    settings(what, bytes, length, there, 5000);
 }
 
 /* A trace on a heap block of just those bytes. */
@@ -149,8 +156,11 @@ int main(void)
     /* the trace 03E5 and eleven spaces */
     real("a message", "\x8B" "03E5" "           ", 16, 0x8B ^ '0' ^ '3' ^ 'E' ^ '5' ^ ' ', 1, 0);
     trace("a trace", "03E5" "           ", 15, 0);
-    trace("a trace without its last space", "03E5" "          ", 14, 5);
-    trace("a trace with 7F in it", "03E5" "          \x7F", 15, 5);
+    trace("a trace without its last space", "03E5" "          ", 14, 5000);
+    trace("a trace with 7F in it", "03E5" "          \x7F", 15, 20015);
+    trace("a trace with 1F at 3 and 80 at 2", "0\x80\x1F" "            ", 15, 20002);
+    trace("a trace with 00 at 15", "03E5" "          \0", 15, 5015);
+    trace("fifteen spaces", "               ", 15, 21000);
     printf("null: %u calls, %u failed\n", tried, failed);
     return failed != 0;
 }

@@ -9,7 +9,7 @@ pub mod c {
         pub fn card_parity(bytes: *const u8, length: usize) -> u8;
         pub fn card_trace_check(bytes: *const u8, length: usize) -> bool;
         pub fn card_word_reading(bytes: *const u8, length: usize) -> u16;
-        pub fn card_settings_check(label: u8, trace: *const u8, length: usize) -> u8;
+        pub fn card_settings_check(label: u8, trace: *const u8, length: usize) -> Refusal;
         pub fn probe_copy(from: *const u8, length: usize, to: *mut u8, room: usize) -> bool;
         pub fn probe_start_byte(characters: *const u8, length: usize) -> u8;
         pub fn probe_plain_word(value: u16) -> u16;
@@ -20,7 +20,7 @@ pub mod c {
         pub fn probe_lookup(bytes: *const u8, length: usize, number: u32, trace: *mut [u8; 15]) -> u64;
         /// place * 256 + parity
         pub fn probe_fresh_container() -> u32;
-        /// refusal number * 65536 + place * 256 + parity; number 0 where nothing is refused
+        /// character's place * 2^24 + refusal number * 65536 + place * 256 + parity; number 0 where nothing is refused, and place 0 where no character is named
         pub fn probe_container(
             payload: *const u8,
             payload_length: usize,
@@ -108,7 +108,8 @@ pub mod c {
         Causes { ais: bool, lop: bool, ssf: bool, uneq: bool, tim: bool, rdi: bool, plm: bool }
         Flags { monitored: bool, rdi: bool, ssf: bool, ais: bool }
         Settings { label: u8, trace: [u8; 15], flags: Flags }
-        Shown { number: u8, state: Plain, ended: Ended, actions: Actions, defects: Defects, causes: Causes, settled: bool }
+        Refusal { number: u8, place: usize }
+        Shown { number: u8, place: usize, state: Plain, ended: Ended, actions: Actions, defects: Defects, causes: Causes, settled: bool }
     }
 }
 
@@ -133,7 +134,17 @@ pub fn word_reading(b: &[u8]) -> u16 {
     unsafe { c::card_word_reading(b.as_ptr(), b.len()) }
 }
 
-pub fn settings_check(label: u8, trace: &[u8]) -> u8 {
+/// A refusal as the bench prints it: its number, 0 for none, and the place of the character, where it names one.
+impl std::fmt::Display for c::Refusal {
+    fn fmt(&self, f: &mut std::fmt::Formatter) -> std::fmt::Result {
+        match self.place {
+            0 => write!(f, "{}", self.number),
+            place => write!(f, "{} {place}", self.number),
+        }
+    }
+}
+
+pub fn settings_check(label: u8, trace: &[u8]) -> c::Refusal {
     let trace = lent(trace);
     unsafe { c::card_settings_check(label, trace.as_ptr(), trace.len()) }
 }
@@ -210,8 +221,8 @@ pub fn fresh() -> (Path, Unit) {
     unsafe { (path(c::probe_fresh_container()), unit(c::probe_fresh_unit())) }
 }
 
-/// The refusal's number, 0 for none, and the state after the call.
-pub fn container_source(s: Path, g: Given, trace: &[u8; 15], payload: &[u8], container: &mut [u8]) -> (u8, Path) {
+/// The refusal, and the state after the call.
+pub fn container_source(s: Path, g: Given, trace: &[u8; 15], payload: &[u8], container: &mut [u8]) -> (c::Refusal, Path) {
     let (trace, payload, mut room) = (Box::new(*trace), lent(payload), lent(container));
     let [f2, h4, f3, k3, n1] = g.unexamined;
     let r = unsafe {
@@ -234,7 +245,7 @@ pub fn container_source(s: Path, g: Given, trace: &[u8; 15], payload: &[u8], con
         )
     };
     container.copy_from_slice(&room);
-    ((r >> 16) as u8, path(r))
+    (c::Refusal { number: (r >> 16) as u8, place: (r >> 24) as usize }, path(r))
 }
 
 /// The refusal's number, how many ended, and the state after the call.

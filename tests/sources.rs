@@ -156,18 +156,18 @@ fn given_faults(order: &[u8], f: &[bool]) -> Vec<u8> {
 fn one_container(t: &mut Tally, met: &mut Met, s: ContainerSource, g: Given, characters: &[u8; 15], payload: &[u8], before: &[u8], faults: &[u8]) -> (ContainerSource, Vec<u8>) {
     let mut want = before.to_vec();
     let answer = second::container_source(AU4, s, g, characters, payload, &mut want);
-    let answer = match answer {
-        Ok(next) => (0, next),
-        Err(refusal) => (refusal.number, s),
+    let (number, answer) = match answer {
+        Ok(next) => (0, ("0".to_string(), next)),
+        Err(refusal) => (refusal.number, (refusal.to_string(), s)),
     };
     let mut got = before.to_vec();
     let to_proved = proved::Given { label: g.label, unexamined: [g.f2, g.h4, g.f3, g.k3, g.n1], violations: g.violations, remote: g.remote };
-    let (number, (place, parity)) = proved::container_source((s.place, s.parity), to_proved, characters, payload, &mut got);
-    let said = (number, ContainerSource { place, parity });
+    let (refusal, (place, parity)) = proved::container_source((s.place, s.parity), to_proved, characters, payload, &mut got);
+    let said = (refusal.to_string(), ContainerSource { place, parity });
     let of = || format!("{s:?} {g:?} trace {}, payload {} bytes, container {} bytes, faults {faults:?}", hex(characters), payload.len(), before.len());
-    t.same("container source", &of, answer, said);
+    t.same("container source", &of, &answer, &said);
     same_bytes(t, "container source's container", &of, &want, &got);
-    met.note(answer.0, faults);
+    met.note(number, faults);
     (answer.1, want)
 }
 

@@ -121,21 +121,37 @@ def by_majority(host):
 
 
 def settings(host):
-    """Order forms: every label, every character at the first and the last place, every number of characters up to 20."""
+    """Order forms: every label, every character at every place and before another, every number of characters up to 20; the worked table."""
     trace = b"03E5".ljust(15)
 
     def line(label, characters):
         return f"settings {label:02X}{characters.hex().upper()}"
 
-    pairs = [(line(label, trace), f"settings {4 if label in (0x00, 0xFF) else 0}") for label in range(256)]
+    def printable(character):
+        return chr(character).isascii() and chr(character).isprintable()
+
+    def at(place, character, of=trace):
+        return of[: place - 1] + bytes([character]) + of[place:]
+
+    pairs = [(line(label, trace), f"settings {4 if label in (0x00, 0xFF) else 0} 0") for label in range(256)]
     for character in range(256):
-        wrong = 0 if chr(character).isascii() and chr(character).isprintable() else 5
-        pairs.append((line(0x12, bytes([character]) + trace[1:]), f"settings {wrong}"))
-        pairs.append((line(0x12, trace[:-1] + bytes([character])), f"settings {wrong}"))
-        pairs.append((line(0xFF, trace[:-1] + bytes([character])), "settings 4"))
+        wrong = 5 if character < ord(" ") else 20
+        for place in range(1, 16):
+            said = "0 0" if printable(character) else f"{wrong} {place}"
+            pairs.append((line(0x12, at(place, character)), f"settings {said}"))
+        # the later of two wrong ones is not named
+        said = "5 15" if printable(character) else f"{wrong} 14"
+        pairs.append((line(0x12, at(15, 0x00, at(14, character))), f"settings {said}"))
+        pairs.append((line(0xFF, at(15, character)), "settings 4 0"))
     for n in range(21):
-        pairs.append((line(0x12, b"0" * n), f"settings {0 if n == 15 else 5}"))
-        pairs.append((line(0x00, b"0" * n), "settings 4"))
+        pairs.append((line(0x12, b"0" * n), f"settings {0 if n == 15 else 5} 0"))
+        pairs.append((line(0x00, b"0" * n), "settings 4 0"))
+    spaces = b" " * 15
+    pairs.append((line(0x12, at(3, 0x1F, at(2, 0x80))), "settings 20 2"))
+    pairs.append((line(0x12, spaces), "settings 21 0"))
+    pairs.append((line(0x12, at(15, 0x7F, spaces)), "settings 20 15"))
+    pairs.append((line(0x12, at(15, 0x00, spaces)), "settings 5 15"))
+    pairs += [(line(0x12, at(place, ord("!"), spaces)), "settings 0 0") for place in range(1, 16)]
     expect(host, pairs, "labels and traces checked before any call")
 
 

@@ -32,7 +32,7 @@ pub extern "C" fn card_word_reading(bytes: &[u8]) -> u16
 
 // The refusal of settings: its number, 0 for none, and the place of the character that it names, 0 for none.
 #[repr(C)]
-pub struct SettingsAnswer {
+pub struct CardRefusal {
     pub number: u8,
     pub place: usize,
 }
@@ -40,11 +40,11 @@ pub struct SettingsAnswer {
 // The number by which every call with this label and this trace will be refused, 0 where none will: 4, 5, 20, 21; 5 and 20 with the place of the character, from 1.
 // The trace is fifteen characters; any other number of them is 5 with place 0.
 #[no_mangle]
-pub extern "C" fn card_settings_check(label: u8, trace: &[u8]) -> SettingsAnswer
+pub extern "C" fn card_settings_check(label: u8, trace: &[u8]) -> CardRefusal
     ensures { λ r. ⌜ r ≡ record { number = settingsCheck label (now (trace .entry)); place = settingsPlace label (now (trace .entry)) } ⌝ }
 {
     let a = settings::answer_alone(label, trace);
-    SettingsAnswer {
+    CardRefusal {
         number: refusals::number(a),
         place: refusals::place(a),
     }

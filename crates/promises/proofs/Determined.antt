@@ -15,7 +15,7 @@ use Rattle.text.specs.Inner.{Written}
 use Rattle.records.specs.declared.Kind.{Kind}
 use Rattle.records.specs.declared.First.{First}
 use Rattle.records.specs.declared.PlaceList.{PlaceList}
-use Rattle.card.specs.declared.SettingsAnswer.{SettingsAnswer}
+use Rattle.card.specs.declared.CardRefusal.{CardRefusal}
 use Rattle.catalogue.specs.declared.Checked.{Checked}
 use Rattle.catalogue.specs.declared.Looked.{Looked}
 use Rattle.parity.proofs.parity.Kinds as parity
@@ -234,7 +234,7 @@ card-trace-check-determined κs a x y s t p q = p ∙ sym q
 pub card-word-reading-determined : Determines {O = ℕ} 1 card-word-reading.ps card-word-reading.r card-word-reading-promise.Post (λ κs r e. r)
 card-word-reading-determined κs a x y s t p q = p ∙ sym q
 
-pub card-settings-check-determined : Determines {O = SettingsAnswer} 1 card-settings-check.ps card-settings-check.r card-settings-check-promise.Post (λ κs r e. r)
+pub card-settings-check-determined : Determines {O = CardRefusal} 1 card-settings-check.ps card-settings-check.r card-settings-check-promise.Post (λ κs r e. r)
 card-settings-check-determined κs a x y s t p q = p ∙ sym q
 
 -- ---- records: what is read of one, the bytes of the part that is handed back
