@@ -126,7 +126,7 @@ fn units(asked_for: Arguments, output: &mut impl Write) -> Result<(), String> {
         let (asked, name) = choose(anywhere, offset, wait, &mut numbers);
         let mut unit = vec![0xEE; UNIT_LENGTH];
         let (refusal, ended, after) = proved::unit_source((offset, wait), asked, &current, &next, &mut unit);
-        if refusal.number != 0 {
+        if refusal != 0 {
             return Err(format!(
                 "unit {number}, {name} at offset {offset} with wait {wait}, was refused with {refusal}"
             ));
