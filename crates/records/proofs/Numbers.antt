@@ -4,13 +4,12 @@ use mathlib.Core.List.{List, [], _∷_}
 use Prim.Native.Nat.{ℕ, _≤_}
 use native.Mathlib.Omega.{arith}
 use lib.ListN.{length}
-use Rattle.refusals.specs.Refusals.{noAt, rowsAt, tracePlaces, traceSays}
+use Rattle.refusals.specs.Refusals.{rowsAt, tracePlaces}
 use Rattle.refusals.specs.declared.TraceFault.{TraceFault}
 use Rattle.refusals.specs.declared.TraceFault.the-variants.{Below, Above, Spaces}
-use Rattle.refusals.proofs.Wrong.{Numbered, numbered-row, numbered-last, numbered-rows, numbered-both}
+use Rattle.refusals.proofs.Wrong.{Numbered, traceSays, numbered-row, numbered-last, numbered-rows, numbered-both}
 use Rattle.settings.specs.Settings.{traceFaults}
 use Rattle.settings.proofs.Refuses.{trace-numbered}
-use Rattle.records.specs.Record.{traceIn}
 use Rattle.records.specs.Refusals.{catalogueNumber, cataloguePlaces, catalogueSays, placesGiven, placesIn}
 use Rattle.records.specs.Faults.{recordFaults}
 use Rattle.records.specs.declared.Kind.{Kind}

@@ -13,7 +13,10 @@ use Rattle.refusals.specs.declared.TraceFault.the-variants.{Below, Above, Space
 use Rattle.refusals.proofs.Wrong.{due-none, due-false}
 use Rattle.refusals.proofs.Joined.{joined-none}
 use Rattle.settings.specs.Settings.{below, above, allSpaces, charactersFrom, traceFaults, judged}
+use Rattle.settings.specs.Faults.{settingsFaults}
+use Rattle.settings.specs.declared.Settings.{Settings}
 use Rattle.settings.specs.declared.TraceAnswer.the-variants.{Wrong}
+use Rattle.settings.proofs.Refuses.{fine-trace}
 
 -- a character that may stand in a trace
 pub record Character (b : ℕ) : Type 0 where
@@ -126,3 +129,8 @@ pub spaces-at : (trace : List ℕ) → ((i : ℕ) → i < length trace → getD 
 unfolding traceFaults due judged
 spaces-at trace h =
     rw (none-from 1 trace (λ i l. record { least = omega (arith, h i l); most = omega (arith, h i l) }), spaces-are trace h) refl
+
+-- ---- settings that no number refuses have such a trace: fifteen spaces are left out
+
+pub fine-good : (e : Settings) → settingsFaults e ≡ [] → Good (e .trace)
+fine-good e h = passing-good (e .trace) (fine-trace e h)

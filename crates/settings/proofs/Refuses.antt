@@ -6,13 +6,13 @@ use Prim.Native.Nat.{ℕ, _+_}
 use native.Mathlib.Omega.{arith}
 use lib.ListN.{length}
 use borrow.Author.Tests.{eq-eqb, ne-eqb}
-use Rattle.refusals.specs.Refusals.{Fault, due, no, noAt, given, rowsAt, traceNumber, tracePlaces, traceSays, numberOf, answerNumber, answerPlace, says, answerOf}
+use Rattle.refusals.specs.Refusals.{Fault, due, no, noAt, given, rowsAt, traceNumber, tracePlaces, numberOf, answerNumber, answerPlace, says, answerOf}
 use Rattle.refusals.specs.declared.TraceFault.{TraceFault}
 use Rattle.refusals.specs.declared.TraceFault.the-variants.{Below, Above, Spaces}
 use Rattle.refusals.specs.declared.Answer.{Answer}
 use Rattle.refusals.specs.declared.Answer.the-variants.{Done, Refused}
 use Rattle.refusals.specs.declared.Refusal.the-variants.{Label, Trace, State}
-use Rattle.refusals.proofs.Wrong.{due-none, number-none, Numbered, numbered-row, numbered-last, numbered-both, numbered-rows}
+use Rattle.refusals.proofs.Wrong.{due-none, number-none, Numbered, traceSays, numbered-row, numbered-last, numbered-both, numbered-rows}
 use Rattle.settings.specs.declared.Settings.{Settings}
 use Rattle.settings.specs.declared.TraceAnswer.{TraceAnswer}
 use Rattle.settings.specs.declared.TraceAnswer.the-variants.{Passes, Wrong}
