@@ -14,6 +14,7 @@ out by these checks.
 """
 
 import os
+import pty
 import random
 import re
 import select
@@ -802,6 +803,27 @@ def early_and_late(command, first, mark, then):
     return early, rest
 
 
+def at_terminal(command, typed, mark):
+    """What a program says at a terminal to what is typed once it asks, up to a mark or its end."""
+    ours, theirs = pty.openpty()
+    program = subprocess.Popen(command, stdin=theirs, stdout=theirs, stderr=theirs, start_new_session=True, env={**os.environ, "TERM": "dumb", "COLUMNS": "100"})
+    os.close(theirs)
+    said, until = b"", time.monotonic() + 20
+    while mark not in said and time.monotonic() < until:
+        if select.select([ours], [], [], 0.5)[0]:
+            try:
+                said += os.read(ours, 4096)
+            except OSError:  # it has ended
+                break
+            if typed and b"1> " in said:
+                os.write(ours, typed)
+                typed = b""
+    program.kill()
+    program.wait()
+    os.close(ours)
+    return said
+
+
 def look_at_desk(folder, program, everything, lesson, data, fault):
     """A desk says what explain --lines says: typed through a pipe, and as a lesson; it helps, and ends when told to."""
     path = os.path.join(folder, "everything.bench")
@@ -858,6 +880,10 @@ def look_at_desk(folder, program, everything, lesson, data, fault):
         done = run([sys.executable, DESK, *arguments], given)
         if done.returncode not in (1, 2) or b"Traceback" in done.stderr or not done.stderr:
             fault("desk", f"{name}: status {done.returncode}, {done.stderr.decode()[-300:]!r}")
+    # at a terminal a TAB in quotes is a TAB, as it came, and elsewhere completes a command
+    said = at_terminal([sys.executable, DESK, "--bench", *program], b'par\t01\nrx 12 "03\tE5" 15\nquit\n', b"In all: ")
+    if b"parity: 01" not in said or b"rx refused 5 at character 3" not in said:
+        fault("desk", f"a TAB typed: {said[-400:]!r}")
     # a bench that says something else is shown, and no reason to stop
     done = run([sys.executable, DESK, "--bench", "/bin/sh", "-c", "k=0; while read -r line; do k=$((k+1)); [ \"$line\" = . ] && echo \"? $k\" || echo peek; done"], b"sink\nsink\n")
     if done.stdout.count(b"cannot be put into words") != 2 or done.stdout.count(b"    peek") != 2 or b"Traceback" in done.stderr:
