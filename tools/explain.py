@@ -6,7 +6,8 @@
     tools/explain.py SCRIPT --bench PROGRAM [ARGS..]  plays the script itself
 
 Comments of the script stand where they stand there. Units are counted through the whole script, and equal ones that follow each other
-have one sentence. Causes have the names of a tester beside ours, a refusal says what to do, a line that was not understood says why.
+have one sentence. Causes have the names of a tester beside ours, a refusal says what to do, and of a refused character which byte it is; a
+line that was not understood says why.
 What is said is what the printed lines and the script show; where they leave a cause open it is left open here.
 
     --brief      few short lines for a projector: large events only, no comments but the title
