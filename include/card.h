@@ -33,7 +33,7 @@
  *      3  a container, held or done buffer is not 2349 bytes long
  *      4  label 00 means that nothing is carried and FF means alarm: neither
  *         can be sent, expected or listed
- *      5  a trace character is outside 20 to 7E, which are the blank to ~
+ *      5  a trace character is below 20, which is the space
  *      6  more than 8 violations are to be returned
  *      7  an adjustment is asked for with fewer than three units since the
  *         last
@@ -46,6 +46,8 @@
  *     12  flags are above 15
  *     13  two records have the same trace
  *     14  the circuit is not listed
+ *     20  a trace character is above 7E, which is ~
+ *     21  all fifteen characters of the trace are spaces, which nobody means
  */
 #ifndef CARD_H
 #define CARD_H

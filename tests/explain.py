@@ -5,13 +5,16 @@
 
 Every script under lessons and examples is played, and so are random lines. What was printed is read here once more, and each sentence is
 held to it: every unit has exactly one; its causes, defects, actions, containers, violations, offsets and whether it settled are those of
-the printed line; every refusal has the words of docs/REFUSALS.md, every `? N` its line; comments stand in their order. Each refusal that the
-bench can give is given by a script; 2 and 8, which it cannot give, are told from lines made up here. The bytes that the words name on
-the line are held to what damage to them does. docs/REFUSALS.md, docs/GLOSSARY.md and include/card.h must have the same words, and
-docs/CARD.md the same orders. A desk must say what explain says. Last, spoiled words and spoiled lines must be found out by these checks.
+the printed line; every refusal has the words of docs/REFUSALS.md and the places that were printed, and of a refused character the byte that
+the script's own line or catalogue has there; every `? N` has its line; comments stand in their order. Each refusal that the bench can give is
+given by a script; 2 and 8, which it cannot give, are told from lines made up here. The bytes that the words name on the line are held to what
+damage to them does. docs/REFUSALS.md, docs/GLOSSARY.md and include/card.h must have the same words, docs/CARD.md the same orders, and the
+traces of docs/REFUSALS.md must be refused as it says. A desk must say what explain says. Last, spoiled words and spoiled lines must be found
+out by these checks.
 """
 
 import os
+import pty
 import random
 import re
 import select
@@ -25,23 +28,26 @@ ROOT = os.path.dirname(os.path.dirname(os.path.abspath(__file__)))
 sys.path.insert(0, os.path.join(ROOT, "tools"))
 import explain
 import script as scripts
-from playing import play, read_line, run, trace_of
+from playing import play, read_line, refused_at_once, run, trace_of
 
 EXPLAIN, DESK = os.path.join(ROOT, "tools", "explain.py"), os.path.join(ROOT, "tools", "desk")
 # The names on a tester, and the orders of refusals, written down once more.
 TESTERS = {"AIS": "AU-AIS", "LOP": "AU-LOP", "SSF": "HP-SSF", "UNEQ": "HP-UNEQ", "TIM": "HP-TIM", "RDI": "HP-RDI", "PLM": "HP-PLM"}
+TRACE = [5, 20, 21]  # what is wrong with a trace: one of these
 ORDERS = {
-    "container source": [8, 4, 5, 2, 3, 6],
+    "container source": [8, 4, *TRACE, 2, 3, 6],
     "unit source": [8, 3, 1, 7],
-    "sink": [8, 4, 5, 1, 3],
+    "sink": [8, 4, *TRACE, 1, 3],
     "payload call": [3, 2],
-    "settings check": [4, 5],
-    "catalogue check": [9, 10, 11, 4, 5, 12, 13],
-    "lookup": [9, 10, 11, 4, 5, 12, 13, 14],
-    "listing": [9, 10, 11, 4, 5, 12, 13],
-    "tx": [4, 5, 6],
-    "rx": [4, 5],
+    "settings check": [4, *TRACE],
+    "catalogue check": [9, 10, 11, 4, *TRACE, 12, 13],
+    "lookup": [9, 10, 11, 4, *TRACE, 12, 13, 14],
+    "listing": [9, 10, 11, 4, *TRACE, 12, 13],
+    "tx": [4, *TRACE, 6],
+    "rx": [4, *TRACE],
 }
+ALL = [*range(1, 15), 20, 21]  # the refusals
+CHARACTERS = (5, 20)  # those that name a character of a trace
 NUMBERS = {"no": 0, "one": 1, "two": 2}
 MOST_BRIEF = 40  # lines of a lesson in its brief form, on a projector
 LONGEST_BRIEF = 200  # characters of one of them before it is wrapped
@@ -81,7 +87,7 @@ def numbers_in(text):
 
 def look_at_pages(refusals_page, glossary, header, card, fault):
     refusals = refusals_of(refusals_page)
-    if list(refusals) != list(range(1, 15)):
+    if list(refusals) != ALL:
         fault("REFUSALS.md", f"the numbers are {list(refusals)}")
     # the same words in the glossary and in the header
     table = dict(re.findall(r"^\| (\d+) \| ([^|]+?) \|$", glossary, re.MULTILINE))
@@ -154,7 +160,9 @@ class Unit:
 
 NOTHING_BEFORE = Unit("ok st=lost off=- held=0 ended=0 ssf=0 tsf=0 ais=0 rdi=0 d=- cause=- settled=0 total=0")
 HEAD = re.compile(r"(units?) (\d+)(?: (and|to) (\d+))?(, the same line again|, one line fed (?:twice|\d+ times))?: (.*)")
-REFUSED = re.compile(r"(container|unit|tx|rx|payload|catalogue|lookup|listing|sink) refused (\d+)((?: in record \d+)?(?:, as in record \d+)?)(?:, (\d+) times)?: (.*)")
+REFUSED = re.compile(r"(container|unit|tx|rx|payload|catalogue|lookup|listing|sink) refused (\d+)((?: in record \d+)?(?: at character \d+)?(?:, as in record \d+)?)"
+                     r"(?:, (\d+) times)?: (.*)")
+CHARACTER = re.compile(r"\((?:circuit (\d+), )?character (\d+) of (the sent|the expected|its) trace(?: \"(.*)\")? is ([0-9A-F]{2})\b")
 
 
 def number_of(word):
@@ -231,6 +239,58 @@ def sentence_faults(body, unit, before, many):
     return wrong
 
 
+def refusal_told(found):
+    """Of a sentence about a refusal: whose, number, places; and where a character is named its circuit, its place, whose trace, the trace as shown, the byte."""
+    character = CHARACTER.search(found[5])
+    named = (character[1] and int(character[1]), int(character[2]), character[3], character[4], int(character[5], 16)) if character else None
+    return found[1], int(found[2]), tuple(numbers_in(found[3])), named
+
+
+def words_of_lines(data):
+    """The number and the words of each line, whatever bytes it has."""
+    lines = data.decode("utf-8", errors="surrogateescape").removeprefix("\ufeff").split("\n")
+    return [(number, read_line(line)[0]) for number, line in enumerate(lines, 1)]
+
+
+def refusals_printed(data, printed):
+    """The same of each refusal of a run, by what was printed and the script's own bytes: the settings that it follows, or the catalogue."""
+    said, settings = list(printed), {"tx": b"03E5".ljust(15), "rx": b"03E5".ljust(15)}
+    for number, words in words_of_lines(data):
+        if said[:1] == [f"? {number}"]:
+            del said[0]
+            continue
+        for name in ["src", "sink"] * int(words[1]) if words and words[0] == "run" else words[:1] if words else []:
+            if name in settings:
+                settings[name] = trace_of(words[2])
+            if name in ("fresh", "fill", "lens", "word", "xor", "ones", "len") or name in settings and not refused_at_once(words) or not said:
+                continue
+            found = re.fullmatch(r"(?:(container|unit|tx|rx|payload|cat|lookup) )?refused (\d+)((?: \d+)*)", said[0])
+            listing = re.fullmatch(r"()(\d+)((?: \d+)*)", said[0]) if name == "list" else None
+            catalogue = bytes.fromhex(words[-1]) if name in ("cat", "lookup", "list") and len(words) > 1 + (name == "lookup") else b""
+            if found or listing:
+                yield refusal_key(name, found or listing, settings, catalogue)
+            del said[: 1 + (len(catalogue) // 21 if said[0].startswith("circuit ") else 0)]
+
+
+def refusal_key(name, found, settings, catalogue):
+    number, places, named = int(found[2]), numbers_in(found[3]), None
+    call = {"cat": "catalogue", "list": "listing"}.get(name, found[1] or "sink")
+    if number in CHARACTERS and places:
+        if name in ("cat", "lookup", "list"):
+            record = catalogue[21 * places[0] - 21 : 21 * places[0]]
+            circuit, whose, trace = int.from_bytes(record[2:4], "big"), "its", record[5:20]
+        else:
+            circuit, whose, trace = (None, "the sent", settings["tx"]) if call in ("tx", "container") else (None, "the expected", settings["rx"])
+        byte = trace[places[-1] - 1] if 1 <= places[-1] <= len(trace) else 0x20
+        # the number says what the byte must be
+        named = (circuit, places[-1], whose, None if call in settings else trace_shown(trace), byte) if byte < 0x20 and number == 5 or byte > 0x7E and number == 20 else "no such character"
+    return call, number, tuple(places), named
+
+
+def trace_shown(trace):
+    return "".join(chr(c) if 0x20 <= c <= 0x7E else f"<{c:02X}>" for c in trace)
+
+
 def look_at_run(name, data, printed, told, refusals, fault):
     """The sentences of a run against its script and what was printed. Counts how much was looked at."""
     words = {number: wrong.replace("`", "") for number, (wrong, _, _) in refusals.items()}
@@ -262,24 +322,20 @@ def look_at_run(name, data, printed, told, refusals, fault):
     if freshes != sum(1 for number, given, _ in commands if given == ["fresh"] and number not in strange):
         fault(name, f"{freshes} times fresh")
     # refusals
-    names = {"cat": "catalogue", None: "sink"}
     given, said = {}, {}
-    for line in printed:
-        found = re.fullmatch(r"(?:(container|unit|tx|rx|payload|cat|lookup) )?refused (\d+)((?: \d+)*)", line)
-        listing = re.fullmatch(r"(\d+)((?: \d+)*)", line)
-        if found or listing:
-            key = (names.get(found[1], found[1]) if found else "listing", int(found[2] if found else listing[1]))
-            given[key] = given.get(key, 0) + 1
+    for key in refusals_printed(data, printed):
+        given[key] = given.get(key, 0) + 1
     for text in told:
         found = REFUSED.fullmatch(text)
         if found:
-            key = (found[1], int(found[2]))
+            key = refusal_told(found)
             said[key] = said.get(key, 0) + int(found[4] or 1)
             if not found[5].startswith(words.get(key[1], "\0")):
                 fault(name, f"not the words of refusal {key[1]}: {text[:160]}")
     if set(given) != set(said) or any(given[key] != said[key] for key in given if key[0] not in ("container", "unit")):
-        fault(name, f"refusals printed {given}, told {said}")
-    for number in {number for _, number in given}:
+        only = [[key for key in one if one[key] != other.get(key)] for one, other in ((given, said), (said, given))]
+        fault(name, f"refusals printed {only[0]}, told {only[1]}")
+    for number in {key[1] for key in given} & set(refusals):
         advice = refusals[number][1].replace("`", "")
         if not any(REFUSED.fullmatch(text) and text.endswith(advice) for text in told):
             fault(name, f"nowhere the advice of refusal {number}")
@@ -298,14 +354,13 @@ def look_at_run(name, data, printed, told, refusals, fault):
     comments = [scripts.clean(comment).rstrip() for number, _, comment in commands if comment and len(lines[number - 1].encode()) <= 100_000]
     if [text for text in told if text.startswith("#")] != comments:
         fault(name, "the comments are not those of the script")
-    # settings, with all blanks of a trace
-    for number, words_of, _ in commands:
+    # settings, with all blanks of a trace, and what is no character
+    for number, words_of in words_of_lines(data):
         if words_of and words_of[0] in ("tx", "rx") and number not in strange:
-            trace = trace_of(words_of[2])
-            if all(0x20 <= c <= 0x7E for c in trace):
-                text = f'{words_of[0]}: the {"source" if words_of[0] == "tx" else "sink"} is set to {"expect " if words_of[0] == "rx" else ""}label {words_of[1].upper()}'
-                if not any(each.startswith(text) and f'trace "{trace.decode()}"' in each for each in told):
-                    fault(name, f"line {number} has no words with the whole trace")
+            trace = trace_shown(trace_of(words_of[2]))
+            text = f'{words_of[0]}: the {"source" if words_of[0] == "tx" else "sink"} is set to {"expect " if words_of[0] == "rx" else ""}label {words_of[1].upper()}'
+            if not any(each.startswith(text) and f'trace "{trace}"' in each for each in told):
+                fault(name, f"line {number} has no words with the whole trace")
     for text in told:
         if re.search(r"\bNone\b|[{}]|\bTraceback\b", text) and not text.startswith("#") and "`" not in text:
             fault(name, f"odd text: {text[:100]}")
@@ -359,6 +414,10 @@ def look_at_brief(name, printed, told, brief, fault):
                         if not any(found and int(found[2]) <= int(head[2]) <= int(found[4] or found[2]) and what in re.findall(other, found[6])
                                    for found in map(HEAD.fullmatch, opposite)):
                             fault(f"{name} in brief", f"only in one form: unit {head[2]}: {what}")
+    # each refusal with its places, and the byte of its character
+    whole, short = ({(*key[:3], key[3] and (key[3][1], key[3][4])) for key in map(refusal_told, filter(None, map(REFUSED.fullmatch, texts)))} for texts in (told, brief))
+    if whole != short:
+        fault(f"{name} in brief", f"refusals only in one form: {whole ^ short}")
     for number in {int(text[2:]) for text in printed if re.fullmatch(r"\? \d+", text)}:
         if not any(text.startswith(f"line {number} is not understood") for text in brief):
             fault(f"{name} in brief", f"line {number} is not named")
@@ -379,27 +438,73 @@ def record(**changed):
 
 
 BAD = {9: GOOD + "00", 10: GOOD + record(mark="5A4E"), 11: GOOD + record(circuit="2710"), 4: GOOD + record(label="FF"),
-       5: GOOD + record(trace="4E6F7264" + "09" + "20" * 10), 12: GOOD + record(flags="10"), 13: GOOD + OTHER + record(trace=b"03E5".ljust(15).hex())}
+       5: GOOD + record(trace="4E6F7264" + "09" + "20" * 10), 12: GOOD + record(flags="10"), 13: GOOD + OTHER + record(trace=b"03E5".ljust(15).hex()),
+       20: GOOD + OTHER + record(trace=b"NORD-S\xdcD".ljust(15).hex()), 21: GOOD + record(trace="20" * 15)}
+PLACES = {9: "", 10: " 2", 11: " 2", 4: " 2", 5: " 2 5", 12: " 2", 13: " 3 1", 20: " 3 7", 21: " 2"}
+TAB = "303309453520202020202020202020"  # 03, a TAB, E5
+
+
+def hexed(*parts):
+    """A trace of these bytes and texts and of spaces behind them, in hex."""
+    return b"".join(part.encode() if isinstance(part, str) else bytes([part]) for part in parts).ljust(15).hex().upper()
+
+
 # number: scripts, and the printed line in which it is given
 GIVEN = {
     1: [("src -\nlen 2357\nsink\n", "refused 1"), ("len 0\nsink\n", "refused 1")],
     3: [("src -\nlens 2348 2349\nsink\n", "refused 3"), ("lens 2349 0\nsrc -\nsink\n", "refused 3")],
-    4: [('tx 00 "" 0 0\n', "tx refused 4"), ('tx ff "A" 0 0\nsrc -\n', "container refused 4"), ('rx 00 "" 0\n', "rx refused 4"), ('rx FF "A" 3\nrun 2\n', "refused 4")],
-    5: [('tx 12 "A\tB" 0 0\nsrc -\n', "tx refused 5"), ('rx 12 "\x7f" 0\nsink\n', "rx refused 5"),
-        ("rx 12 3033453500" + "20" * 10 + " 0\nsink\n", "refused 5"), ('tx 12 "a\tb" 0 0\nsrc -\n', "container refused 5")],
+    4: [('tx 00 "" 0 0\n', "tx refused 4"), ('tx ff "A" 0 0\nsrc -\n', "container refused 4"), ('rx 00 "" 0\n', "rx refused 4"), ('rx FF "A" 3\nrun 2\n', "refused 4"),
+        (f"rx FF {TAB} 0\n", "rx refused 4")],
+    5: [('tx 12 "A\tB" 0 0\nsrc -\n', "tx refused 5 2"), (f"rx 12 {TAB} 15\n", "rx refused 5 3"), (f"tx 12 {TAB} 9 0\nrun 2\n", "container refused 5 3"),
+        ("rx 12 3033453500" + "20" * 10 + " 0\nsink\n", "refused 5 5"), ('tx 12 "a\tb" 0 0\nsrc -\n', "container refused 5 2"),
+        (f"rx 12 {hexed(' ' * 14, 0)} 15\nsink\n", "refused 5 15"), (f"rx 12 {hexed(0x1F, 0x80)} 0\n", "rx refused 5 1"),
+        (f"rx 12 {TAB} 15\nrun 2\n", "refused 5 3"), ('rx 12 "ABCDEFGHIJKLMN\x1b" 1\n', "rx refused 5 15")],
+    20: [('rx 12 "\x7f" 0\nsink\n', "rx refused 20 1"), (f"rx 12 {hexed('0', 0x80, 0x1F)} 0\nsink\n", "refused 20 2"),
+         (f"tx 12 {hexed(' ' * 14, 0x7F)} 0 0\nsrc -\n", "container refused 20 15"), ('rx 12 "NORD-S\u00dcD 101" 15\n', "rx refused 20 7"),
+         (f"rx 12 {hexed('NORD-S', 0xDC, 'D')} 15\n", "rx refused 20 7"), (f"tx 12 {hexed(0x93)} 0 0\n", "tx refused 20 1"), (f"tx 12 {hexed('A', 0xA0)} 0 0\n", "tx refused 20 2"),
+         ('rx 12 "A\u2013B" 0\n', "rx refused 20 2"), ('rx 12 "U\u0308" 0\n', "rx refused 20 2"), (f"rx 12 {hexed(0x81)} 0\n", "rx refused 20 1")],
+    21: [('rx 12 "" 15\nsink\n', "rx refused 21"), (f'rx 12 {"20" * 15} 0\nrun 2\n', "refused 21"), ('tx 12 " " 0 0\n', "tx refused 21"), ('tx 12 "" 9 0\nsrc -\n', "container refused 21")],
     6: [('tx 12 "A" 9 0\nsrc -\n', "tx refused 6"), ('tx 12 "A" 255 1\nsrc -\n', "container refused 6")],
     7: [("src i\nsrc -\nsrc -\nsrc d\n", "unit refused 7")],
     14: [(f"lookup 8 {GOOD}\n", "lookup refused 14"), ("lookup 7\n", "lookup refused 14")],
 }
 for number, data in BAD.items():
-    GIVEN.setdefault(number, []).extend([(f"cat {data}\n", f"cat refused {number}"), (f"lookup 7 {data}\n", f"lookup refused {number}"), (f"list {data}\n", f"{number}")])
+    places = f"{number}{PLACES[number]}"
+    GIVEN.setdefault(number, []).extend([(f"cat {data}\n", f"cat refused {places}"), (f"lookup 7 {data}\n", f"lookup refused {places}"), (f"list {data}\n", places)])
+# lines that no bench prints: a place too few or too many, or one that no character has
+NEVER = {
+    'rx 12 "" 0\n': ("rx refused 21 1", "rx refused 5", "rx refused 5 0", "rx refused 20 16", "rx refused 20 2 7", "rx refused 4 1"),
+    "sink\n": ("refused 5", "refused 20 3 1", "refused 21 15"),
+    f"cat {GOOD}\n": ("cat refused 5 1", "cat refused 20 1", "cat refused 21", "cat refused 21 1 1", "cat refused 20 1 16", "cat refused 4", "cat refused 13 2", "cat refused 9 1"),
+    f"lookup 7 {GOOD}\n": ("lookup refused 14 1", "lookup refused 5 3"),
+    f"list {GOOD}\n": ("20 1", "21", "5 1 0", "13 2"),
+}
 # what the words must have beside those of the table, from the script's own bytes
 DETAILS = {
     f"cat {BAD[9]}\n": "it has 22 bytes, 1 more than a whole number of records",
     f"cat {BAD[10]}\n": "catalogue refused 10 in record 2: a record does not begin with the mark 5A 4D (it begins with 5A 4E)",
     f"cat {BAD[11]}\n": "the number is 10000",
     f"cat {BAD[4]}\n": "circuit 9, the label is FF",
-    f"cat {BAD[5]}\n": "circuit 9, character 5 is 09",
+    f"cat {BAD[5]}\n": 'catalogue refused 5 in record 2 at character 5: a trace character is below 20, which is the space (circuit 9, character 5 of its trace "Nord<09>          " is 09, TAB). Look',
+    f"cat {BAD[20]}\n": 'catalogue refused 20 in record 3 at character 7: a trace character is above 7E, which is ~ '
+                        '(circuit 9, character 7 of its trace "NORD-S<DC>D       " is DC, \u00dc in Latin-1). Look',
+    f"lookup 7 {BAD[20]}\n": "lookup refused 20 in record 3 at character 7: ",
+    f"list {BAD[21]}\n": "listing refused 21 in record 2: all fifteen characters of the trace are spaces, which nobody means (circuit 9). The name is missing",
+    f"rx 12 {TAB} 15\n": "rx refused 5 at character 3: a trace character is below 20, which is the space (character 3 of the expected trace is 09, TAB). Look",
+    f"rx 12 {TAB} 15\nrun 2\n": 'sink refused 5 at character 3, 2 times: a trace character is below 20, which is the space (character 3 of the expected trace "03<09>E5          " is 09, TAB)',
+    f"tx 12 {TAB} 9 0\nrun 2\n": 'nothing new was sent (container refused 5 at character 3)',
+    'tx 12 "a\tb" 0 0\nsrc -\n': 'container refused 5 at character 2: a trace character is below 20, which is the space (character 2 of the sent trace "a<09>b            " is 09, TAB)',
+    f"rx 12 {hexed(' ' * 14, 0)} 15\nsink\n": "character 15 of the expected trace is 00, NUL). ",
+    f"rx 12 {hexed(0x1F, 0x80)} 0\n": "character 1 of the expected trace is 1F). ",
+    'rx 12 "\x7f" 0\nsink\n': "rx refused 20 at character 1: a trace character is above 7E, which is ~ (character 1 of the expected trace is 7F, DEL). Look",
+    'rx 12 "NORD-S\u00dcD 101" 15\n': "character 7 of the expected trace is C3, which with 9C is \u00dc in UTF-8). ",
+    f"rx 12 {hexed('NORD-S', 0xDC, 'D')} 15\n": "character 7 of the expected trace is DC, \u00dc in Latin-1). ",
+    f"tx 12 {hexed(0x93)} 0 0\n": "tx refused 20 at character 1: a trace character is above 7E, which is ~ (character 1 of the sent trace is 93, \u201c in Windows-1252). ",
+    f"tx 12 {hexed('A', 0xA0)} 0 0\n": "character 2 of the sent trace is A0, no-break space in Latin-1). ",
+    'rx 12 "A\u2013B" 0\n': "character 2 of the expected trace is E2, which with 80 93 is \u2013 in UTF-8). ",
+    'rx 12 "U\u0308" 0\n': "character 2 of the expected trace is CC, which with 88 is combining diaeresis in UTF-8). ",
+    f"rx 12 {hexed(0x81)} 0\n": "character 1 of the expected trace is 81). ",
+    'rx 12 "" 15\nsink\n': "rx refused 21: all fifteen characters of the trace are spaces, which nobody means. The name is missing",
     f"cat {BAD[12]}\n": "circuit 9, flags 16",
     f"cat {BAD[13]}\n": 'catalogue refused 13 in record 3, as in record 1: two records have the same trace (circuit 9, trace "03E5           ")',
     "src -\nlen 2357\nsink\n": "the line has 2357 bytes",
@@ -466,6 +571,7 @@ ANSWERS = {
     "sink\tx\n": "a TAB is no blank",
     'rx 12 "A 3\n': "a double quote opens a trace, and no quote closes it",
     'rx 12 "1234567890123456" 3\n': "has 16 characters, and a trace has at most 15",
+    'rx 12 "NORD-S\u00dcD 101 AB" 3\n': "has 16 characters, and a trace has at most 15; each byte counts, and a sign above 7E may have two or more",
     "rx 12 NORD SUED 3\n": "a trace with blanks in it needs double quotes",
     "xor 2358 01\n": "byte 2358, counted from 0, lies behind its end",
     "cat 5A4D0z\n": "HEX: z in 5A4D0z is no hex digit",
@@ -481,7 +587,7 @@ def look_at_refusals(program, refusals, fault):
         for text, wanted in tried:
             name = f"refusal {number}: {text.strip()[:40]!r}"
             printed, told, _ = look_at_script(name, text.encode(), program, refusals, fault)
-            if not any(line == wanted or line.startswith(wanted + " ") for line in printed):
+            if wanted not in printed:
                 fault(name, f"the bench does not print `{wanted}`: {printed[-1:]}")
             seen.add(number)
             if text in DETAILS and not any(DETAILS[text] in each for each in told):
@@ -494,11 +600,36 @@ def look_at_refusals(program, refusals, fault):
         seen.add(number)
     if seen != set(refusals):
         fault("refusals", f"tried were {sorted(seen)}")
+    unused = [text for text in DETAILS if not any(text == each for tried in GIVEN.values() for each, _ in tried)]
+    if unused:
+        fault("refusals", f"no script for the words of {unused}")
+    for text, lines in NEVER.items():
+        for line in lines:
+            try:
+                told = told_of(text.encode(), [line])
+                fault("refusals", f"`{line}` is told, and no bench prints it: {told}")
+            except scripts.Fault as wrong:
+                if "which the bench does not print" not in str(wrong):
+                    fault("refusals", f"`{line}`: {wrong}")
+    # a raw byte of another code in quotes is a byte like any other
+    look_at_script("a byte of Latin-1", b'rx 12 "NORD-S\xdcD" 15\nsink\n', program, refusals, fault)
     for text, wanted in ANSWERS.items():
         name = f"answer to {text.strip()[:40]!r}"
         _, told, _ = look_at_script(name, text.encode(), program, refusals, fault)
         if not any(wanted in each for each in told):
             fault(name, f"nowhere `{wanted}`: {[each[:200] for each in told[-3:]]}")
+
+
+def look_at_traces(program, page, fault):
+    """The traces of docs/REFUSALS.md are refused as it says, and with the same words where they are sent."""
+    rows = re.findall(r"^\| `([0-9A-F]{30})` \| [^|]+ \| `rx refused ([\d ]+)` \|$", page, re.MULTILINE)
+    if len(rows) < 5 or {int(said.split(" ")[0]) for _, said in rows} != set(TRACE):
+        fault("REFUSALS.md", f"its traces are {rows}")
+    for trace, said in rows:
+        for call, line in (("rx", f"rx 12 {trace} 15\n"), ("tx", f"tx 12 {trace} 0 0\n")):
+            printed = lines_of(play(program, line.encode(), "REFUSALS.md"))
+            if printed != [f"{call} refused {said}"]:
+                fault("REFUSALS.md", f"`{line.strip()}` prints {printed}, not refused {said}")
 
 
 def look_at_rows(program, card, fault):
@@ -560,7 +691,8 @@ def random_script(seed, lines):
         return pick((text, text.upper(), text[:-1] if dice.random() < 0.2 else text))
 
     def trace():
-        return pick(('"03E5"', '"03E5"', "303345352020202020202020202020", '""', '"a""b"', '"x" ', '"1234567890123456"', '"abc', '"a"b', "03E5", '"#"', '"\x7f"', b"\xc3\xa4".decode()))
+        return pick(('"03E5"', '"03E5"', "303345352020202020202020202020", '""', '"a""b"', '"x" ', '"1234567890123456"', '"abc', '"a"b', "03E5", '"#"', '"\x7f"', b"\xc3\xa4".decode(),
+                     '"N\u00f6rd"', '"a\tb"', TAB, hexed("A", pick((0x00, 0x1F, 0x7F, 0x80, 0xFF)), pick((0x00, 0x1F, 0x7F, 0x80, 0xFF))), hexed(" " * dice.randrange(16))))
 
     made = {
         "fresh": lambda: "fresh" if dice.random() < 0.1 else "src -",
@@ -580,8 +712,8 @@ def random_script(seed, lines):
         "sink": lambda: "sink",
         "payload": lambda: f"payload {pick((0, 1, 2))}",
         "cat": lambda: f"cat {pick((GOOD, GOOD + OTHER, '', hexes(), *BAD.values()))}",
-        "lookup": lambda: f"lookup {pick((7, 8, 0, 10000, 999999999, 1000000000))} {pick((GOOD, BAD[13], ''))}",
-        "list": lambda: f"list {pick((GOOD, GOOD + OTHER, '', BAD[4], hexes()))}",
+        "lookup": lambda: f"lookup {pick((7, 8, 0, 10000, 999999999, 1000000000))} {pick((GOOD, BAD[5], BAD[13], BAD[20], BAD[21], ''))}",
+        "list": lambda: f"list {pick((GOOD, GOOD + OTHER, '', BAD[4], BAD[5], BAD[20], BAD[21], hexes()))}",
         "parity": lambda: f"parity {hexes()}",
         "check": lambda: f"check {pick(('8B' + b'03E5'.ljust(15).hex(), hexes(20)))}",
         "read": lambda: f"read {hexes(4)}",
@@ -671,6 +803,27 @@ def early_and_late(command, first, mark, then):
     return early, rest
 
 
+def at_terminal(command, typed, mark):
+    """What a program says at a terminal to what is typed once it asks, up to a mark or its end."""
+    ours, theirs = pty.openpty()
+    program = subprocess.Popen(command, stdin=theirs, stdout=theirs, stderr=theirs, start_new_session=True, env={**os.environ, "TERM": "dumb", "COLUMNS": "100"})
+    os.close(theirs)
+    said, until = b"", time.monotonic() + 20
+    while mark not in said and time.monotonic() < until:
+        if select.select([ours], [], [], 0.5)[0]:
+            try:
+                said += os.read(ours, 4096)
+            except OSError:  # it has ended
+                break
+            if typed and b"1> " in said:
+                os.write(ours, typed)
+                typed = b""
+    program.kill()
+    program.wait()
+    os.close(ours)
+    return said
+
+
 def look_at_desk(folder, program, everything, lesson, data, fault):
     """A desk says what explain --lines says: typed through a pipe, and as a lesson; it helps, and ends when told to."""
     path = os.path.join(folder, "everything.bench")
@@ -711,13 +864,15 @@ def look_at_desk(folder, program, everything, lesson, data, fault):
     if [line.strip() for line in done.split("\n") if re.match(r" {4}(parity|\?) ", line)] != ["parity 03", "? 2", "? 4"] or "parity: 01" in done:
         fault("desk", f"--raw, or the numbers of lines, or quit: {done[-400:]}")
     # help
-    done = run([sys.executable, DESK, "--bench", *program], b"help\nhelp sink\nhelp 4\nhelp cTIM\nhelp nothing\n").stdout.decode()
+    done = run([sys.executable, DESK, "--bench", *program], b"help\nhelp sink\nhelp 4\nhelp 5\nhelp 20\nhelp 21\nhelp 15\nhelp cTIM\nhelp nothing\n").stdout.decode()
     for name in scripts.COMMANDS:
         if not re.search(rf"^  {re.escape(scripts.form(name))}  ", done, re.MULTILINE):
             fault("desk", f"help has no {name}")
     joined = " ".join(done.split())
     for text in ["st=", "off=", "held=", "ended=", "c=", "ssf=", "tsf=", "ais=", "rdi=", "d=", "cause=", "settled=", "total=", "hb=", "db=",
-                 "refusal 4: label 00 means", "cTIM (HP-TIM): trace mismatch: ", "There is no help on nothing"]:
+                 "refusal 4: label 00 means", "refusal 5: a trace character is below 20, which is the space. Look", "refusal 20: a trace character is above 7E, which is ~. Look",
+                 "refusal 21: all fifteen characters of the trace are spaces, which nobody means. The name is missing", "There is no help on 15",
+                 "cTIM (HP-TIM): trace mismatch: ", "There is no help on nothing"]:
         if text not in joined:
             fault("desk", f"help does not say {text}")
     for name, arguments, given in (("a bench that is not there", ["--bench", os.path.join(folder, "none")], b""), ("no such lesson", [os.path.join(folder, "none"), "--bench", *program], b""),
@@ -725,6 +880,10 @@ def look_at_desk(folder, program, everything, lesson, data, fault):
         done = run([sys.executable, DESK, *arguments], given)
         if done.returncode not in (1, 2) or b"Traceback" in done.stderr or not done.stderr:
             fault("desk", f"{name}: status {done.returncode}, {done.stderr.decode()[-300:]!r}")
+    # at a terminal a TAB in quotes is a TAB, as it came, and elsewhere completes a command
+    said = at_terminal([sys.executable, DESK, "--bench", *program], b'par\t01\nrx 12 "03\tE5" 15\nquit\n', b"In all: ")
+    if b"parity: 01" not in said or b"rx refused 5 at character 3" not in said:
+        fault("desk", f"a TAB typed: {said[-400:]!r}")
     # a bench that says something else is shown, and no reason to stop
     done = run([sys.executable, DESK, "--bench", "/bin/sh", "-c", "k=0; while read -r line; do k=$((k+1)); [ \"$line\" = . ] && echo \"? $k\" || echo peek; done"], b"sink\nsink\n")
     if done.stdout.count(b"cannot be put into words") != 2 or done.stdout.count(b"    peek") != 2 or b"Traceback" in done.stderr:
@@ -763,6 +922,7 @@ def look_at_checks(program, pages, refusals, fault):
             fault("these checks", f"not found: {name}")
 
     base = b'rx 12 "03E5" 15\nrun 70\ntx 12 "03E6" 2 0\nrun 60\nones\nsink\nsink\nsink\nsnk\nrun 9\nsrc i\nsink\nrun 4\nsrc d\nxor 300 07\nsink\nrun 3\nfresh\nrx 00 "" 0 # ends\nrun 2\n'
+    base += f'rx 12 {TAB} 15\nsink\ntx 12 {hexed("NORD-S", 0xDC, "D")} 0 0\nsrc -\nrx 12 "" 15\nsink\ncat {BAD[5]}\ncat {BAD[20]}\nlookup 7 {BAD[20]}\nlist {BAD[20]}\ncat {BAD[21]}\n'.encode()
     printed = lines_of(play(program, base, "these checks"))
     told = told_of(base, printed)
     look_at_run("a good run", base, printed, told, refusals, fault)
@@ -787,14 +947,32 @@ def look_at_checks(program, pages, refusals, fault):
         "how often": change(", 2 times", ", 3 times"), "the advice": change("Send the order form back", "Try again"), "another line": change("line 9 is", "line 8 is"),
         "another line's text": change("`snk`", "`snik`"), "a comment": change("# ends", "# ended"), "a trace cut": change('trace "03E6           "', 'trace "03E6"'), "alarm": change("goes to alarm", "is lost"),
         "a reason": change("trace mismatch (dTIM) still stands, so", "remote defect (dRDI) still stands, so"), "SSF": change("server signal fail (SSF), so ", ""), "fresh": [text for text in told if not text.startswith("fresh")],
+        # refused characters: where they stand, which byte they are, and in whose trace
+        "another character": change("rx refused 5 at character 3", "rx refused 5 at character 4"), "no character": change("sink refused 5 at character 3", "sink refused 5"),
+        "another byte": change("the expected trace is 09, TAB", "the expected trace is 0A, TAB"), "another byte in a catalogue": change("is DC, ", "is C3, "),
+        "a byte left out": change("character 3 of the expected trace is 09, TAB", "character 3 of the expected trace"), "another place in the detail": change("(character 3 of", "(character 4 of"),
+        "whose trace": change("character 3 of the expected trace", "character 3 of the sent trace"), "another trace": change('expected trace "03<09>E5  ', 'expected trace "03<09>E6  '),
+        "a trace without its character": change('sent trace "NORD-S<DC>D', 'sent trace "NORD-SD'), "a setting with another character": change('trace "03<09>E5', 'trace "03<0A>E5'),
+        "above for below": change("rx refused 5 at", "rx refused 20 at"), "words of above": change("is below 20, which is the space", "is above 7E, which is ~"),
+        "words of below": change("is above 7E, which is ~", "is below 20, which is the space"), "another record": change("catalogue refused 20 in record 3", "catalogue refused 20 in record 2"),
+        "record for character": change("listing refused 20 in record 3 at character 7", "listing refused 20 in record 7 at character 3"),
+        "no record": change("lookup refused 20 in record 3 at", "lookup refused 20 at"),
+        "another circuit": change("(circuit 9, character 5", "(circuit 7, character 5"), "advice of above": [text.replace("mostly it is an umlaut", "mostly it is a TAB") for text in told],
+        "spaces alone": change("rx refused 21: all fifteen characters", "rx refused 21: all characters"), "a character of spaces alone": change("sink refused 21", "sink refused 21 at character 1"),
+        "spaces alone left out": [text for text in told if not text.startswith("catalogue refused 21")],
     }
     for name, texts in words.items():
         tried(name, lambda texts=texts: look_at_run("spoiled", base, printed, texts, refusals, note))
     # printed lines of another run, told as they stand, are not those of this one
-    lines = {"cause=cTIM": "cause=cPLM", "d=dTIM": "d=dPLM", "settled=1": "settled=0", "ended=2 c=": "ended=1 c=", " off=1 ": " off=2 ", "v=3,": "v=4,", "fe=2": "fe=3", "st=alarm": "st=lost",
-             "ais=1": "ais=0", "rdi=1": "rdi=0", "ssf=1": "ssf=0", "refused 4": "refused 5", "? 9": "? 8"}
-    for old, new in lines.items():
-        place = next((place for place, text in enumerate(printed) if old in text and (text.startswith("ok ") or not old.startswith(" "))), None)
+    lines = [("cause=cTIM", "cause=cPLM"), ("d=dTIM", "d=dPLM"), ("settled=1", "settled=0"), ("ended=2 c=", "ended=1 c="), (" off=1 ", " off=2 "), ("v=3,", "v=4,"), ("fe=2", "fe=3"),
+             ("st=alarm", "st=lost"), ("ais=1", "ais=0"), ("rdi=1", "rdi=0"), ("ssf=1", "ssf=0"), ("refused 4", "refused 5"), ("? 9", "? 8"),
+             ("rx refused 5 3", "rx refused 5 4"), ("rx refused 5 3", "rx refused 20 3"), ("refused 5 3", "refused 5"), ("container refused 20 7", "container refused 20 8"),
+             ("container refused 20 7", "container refused 21"), ("cat refused 20 3 7", "cat refused 20 7 3"), ("cat refused 20 3 7", "cat refused 20 3 6"), ("lookup refused 20 3 7", "lookup refused 20 2 7"),
+             ("20 3 7", "20 3 8"), ("20 3 7", "5 3 7"),
+             ("rx refused 21", "rx refused 20 1"), ("cat refused 21 2", "cat refused 21 1"), ("cat refused 5 2 5", "cat refused 5 2 4")]
+    for old, new in lines:
+        place = next((place for place, text in enumerate(printed) if text == old), None)  # the whole line, or the first that has it
+        place = place if place is not None else next((place for place, text in enumerate(printed) if old in text and (text.startswith("ok ") or not old.startswith(" "))), None)
         if place is None:
             fault("these checks", f"no printed line has `{old}`")
             continue
@@ -803,7 +981,8 @@ def look_at_checks(program, pages, refusals, fault):
         tried(f"printed {new} for {old}", lambda other=other: look_at_run("spoiled", base, other, told, refusals, note))
     brief = told_of(base, printed, brief=True)
     for name, texts in (("a defect", [text for text in brief if "dTIM clears" not in text]), ("a line", [text for text in brief if "line 9" not in text]),
-                        ("too much", brief + ["x" * (LONGEST_BRIEF + 1)]), ("a step", [text.replace("decrement 1 to 0", "") for text in brief])):
+                        ("too much", brief + ["x" * (LONGEST_BRIEF + 1)]), ("a character", [text.replace(" at character 3", "") for text in brief]),
+                        ("a byte", [text.replace("trace is DC", "trace is DD") for text in brief]), ("a step", [text.replace("decrement 1 to 0", "") for text in brief])):
         tried(f"brief without {name}", lambda texts=texts: look_at_brief("spoiled", printed, told, texts, note))
     # pages
     page, glossary, header, card = pages
@@ -811,7 +990,10 @@ def look_at_checks(program, pages, refusals, fault):
                           ("a word of the header", (page, glossary, header.replace("flags are above 15", "flags above 15"), card)),
                           ("a word of the page", (page.replace("| 14 | the circuit is not listed", "| 14 | the circuit is unknown"), glossary, header, card)),
                           ("a number", (page.replace("| 8 | the state", "| 15 | the state"), glossary, header, card)),
-                          ("an order", (page.replace("| sink | 8, 4, 5, 1, 3 |", "| sink | 8, 4, 5, 3, 1 |"), glossary, header, card)),
+                          ("an order", (page.replace("| sink | 8, 4, 5/20/21, 1, 3 |", "| sink | 8, 4, 5/20/21, 3, 1 |"), glossary, header, card)),
+                          ("a number of an order", (page.replace("| `rx` | 4, 5/20/21 |", "| `rx` | 4, 5/21 |"), glossary, header, card)),
+                          ("a word of 20 in the glossary", (page, glossary.replace("| 20 | a trace character is above", "| 20 | a character is above"), header, card)),
+                          ("a word of 21 in the header", (page, glossary, header.replace("spaces, which nobody means", "spaces"), card)),
                           ("who gives it", (page.replace("| unit source, sink |", "| unit source |", 1), glossary, header, card)),
                           ("the card's order", (page, glossary, header, card.replace("| payload call | 3, 2 |", "| payload call | 2, 3 |"))),
                           ("a tester's name", (page, glossary.replace("| HP-TIM |", "| HP-PLM |"), header, card)),
@@ -820,7 +1002,12 @@ def look_at_checks(program, pages, refusals, fault):
         if changed == pages:
             fault("these checks", f"nothing to change: {name}")
         tried(name, lambda changed=changed: look_at_pages(*changed, note))
-    return len(words) + len(lines) + 14
+    trials = 0
+    for name, old, new in (("another character of a trace", "`rx refused 20 2`", "`rx refused 20 3`"), ("another answer to spaces", "`rx refused 21`", "`rx refused 5 1`"),
+                           ("no answer", "`rx refused 5 15`", "refused")):
+        trials += 1
+        tried(name, lambda old=old, new=new: look_at_traces(program, page.replace(old, new), note))
+    return len(words) + len(lines) + trials + 19
 
 
 # ---------------------------------------------------------------------------
@@ -852,6 +1039,7 @@ def main():
             if again != told:
                 fault(name, "other words with CR LF and a byte order mark")
     look_at_refusals(program, refusals, fault)
+    look_at_traces(program, pages[0], fault)
     look_at_rows(program, pages[3], fault)
     look_at_bytes(program, fault)
     for seed in range(4):
@@ -863,7 +1051,7 @@ def main():
     seeded = look_at_checks(program, pages, refusals, fault)
     count = sum(map(len, failures.values()))
     print(f"explain: {len(names)} scripts and {checked['runs']} runs, {checked['units']} units in {checked['sentences']} sentences, {checked['refusals']} refusals, "
-          f"{checked['strange']} lines not understood; refusals 1 to 14, of which the bench cannot give 2 and 8; brief at most {longest} lines; "
+          f"{checked['strange']} lines not understood; refusals 1 to 14, 20 and 21, of which the bench cannot give 2 and 8; brief at most {longest} lines; "
           f"{seeded} faults put in are found; {f'{count} faults' if count else 'all as printed'}")
     if count:
         sys.exit(1)

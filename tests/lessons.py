@@ -56,7 +56,7 @@ ROWS = {
     "P12": (5, 0x1801, "new data", 1, 0),
 }
 # Lessons that more is asked of than that they print what is kept
-STEPS, TOGETHER, MOST, NOTHING = "05-none-one-or-two", "07-two-causes", "13-exactly-66", "14-unequipped"
+STEPS, TOGETHER, MOST, NOTHING, WHICH = "05-none-one-or-two", "07-two-causes", "13-exactly-66", "14-unequipped", "16-which-character"
 
 
 class Shown:
@@ -293,6 +293,18 @@ def look_at_nothing(lesson, fault):
         fault(f"{lesson.name}.bench", "a container has violations")
 
 
+def look_at_which(lesson, fault):
+    """A character below and one above, the earliest of two, spaces alone and but one; and every call that can name a character does."""
+    said = [one.lines[0] for one in lesson.shown]
+    for line in ("rx refused 5 3", "rx refused 20 2", "rx refused 21", "rx refused 20 15", "rx refused 5 15", "rx refused 4"):
+        if line not in said:
+            fault(f"{lesson.name}.bench", f"nothing is answered with {line}")
+    for call in ("tx ", "rx ", "container ", "", "cat ", "lookup ", "list "):
+        pattern = r"(5|20) \d+ \d+" if call == "list " else rf"{call}refused (5|20)( \d+){'{2}' if call in ('cat ', 'lookup ') else ''}"
+        if not any(re.fullmatch(pattern, line) for line in said):
+            fault(f"{lesson.name}.bench", f"no {call or 'sink '}names a character")
+
+
 def look_at_most(lesson, fault):
     place = f"{lesson.name}.bench"
     told = [(one.field("settled"), one.field("total")) for one in lesson.sinks()]
@@ -366,7 +378,7 @@ def main():
     if not 0 < minutes <= HOUR:
         fault(PAGES[0], f"the lessons take {minutes} minutes")
     by_name = {lesson.name: lesson for lesson in lessons}
-    for name, look in ((STEPS, look_at_steps), (TOGETHER, look_at_together), (MOST, look_at_most), (NOTHING, look_at_nothing)):
+    for name, look in ((STEPS, look_at_steps), (TOGETHER, look_at_together), (MOST, look_at_most), (NOTHING, look_at_nothing), (WHICH, look_at_which)):
         if name in by_name:
             look(by_name[name], fault)
         else:

@@ -56,6 +56,7 @@ def fault(what, text):
 
 RECORD, OTHER_RECORD = "5A4D0007123033453520202020202020202020200F", "5A4D00081220202020205D20205B202020202020200F"
 RECORDS = "".join(f"5A4D{k:04X}12{k + 65:02X}{'20' * 14}0F" for k in range(1, 13))
+BELOW, ABOVE, SPACES = (f"5A4D000912{trace}0F" for trace in (f"30330045{'20' * 11}", f"{'20' * 14}7F", "20" * 15))
 # What the examples do not have: lines of other lengths among units, all that can be done to a line, refusals of every call, at places where
 # the sink is called next and where it is not, lines that are not understood or not about the path, questions between notes, traces with blanks,
 # quotes and brackets in them, comments behind commands, characters that XML has for itself.
@@ -93,6 +94,16 @@ tx 00 "" 0 0
 src -
 tx 01 "a  b ""c"" ]" 0 1
 rx 01 {"20" * 14}1F 15
+sink
+tx 01 {"41" * 6}DC09{"20" * 7} 0 0
+src -
+src -
+sink
+run 1
+src -
+tx 01 "" 0 1
+run 1
+tx 01 "a  b ""c"" ]" 0 1
 # what was asked stands between two texts of one place
 cat {RECORD}
 rx 01 " [x]  " 9
@@ -100,6 +111,8 @@ src d
 src i
 sink
 rx 02 "" 15
+sink
+rx 02 "Q" 15
 sink
 # see: nothing
 fresh
@@ -120,6 +133,10 @@ list {RECORDS}
 cat {RECORD * 12}
 lookup 7
 lookup 0007 {RECORD.lower()}
+cat {RECORD}{BELOW}
+lookup 7 {RECORD}{RECORDS}{ABOVE}
+list {ABOVE}{BELOW}
+list {RECORD}{SPACES} # an empty cell
 parity {"0102" * 120}
 check
 check 8B{"41" * 15}
@@ -146,10 +163,11 @@ src -
 
 def long_run(units):
     """Many units with something among them everywhere, so that it comes at the edges of bands too."""
-    lines = ["# A long run", "# Not of the title", 'rx 01 "" 15', 'tx 01 "" 0 0']
+    lines = ["# A long run", "# Not of the title", 'rx 01 "a" 15', 'tx 01 "a" 0 0']
     for k in range(units):
         lines += {3: ["# A long run has comments"], 7: ["src i", "sink"], 11: ["src d"], 12: ["src -", "ones", "sink", "sink", "sink"], 17: ["len 2350", "sink"],
-                  19: ["src -", "word 0800", "sink", "xor 100 07"], 22: [f'tx 0{1 + k % 2} "" {k % 10} {k % 2}'], 5: ["rx FF \"\" 1", "sink", 'rx 01 "" 15']}.get(k % 23, [])
+                  19: ["src -", "word 0800", "sink", "xor 100 07"], 22: [f'tx 0{1 + k % 2} "a" {k % 10} {k % 2}'], 5: ["rx FF \"\" 1", "sink", 'rx 01 "a" 15'],
+                  14: [f"rx 01 {'41' * (k % 15)}{'07' if k % 2 else 'FE'}{'20' * (14 - k % 15)} 0", "sink", 'rx 01 "a" 15']}.get(k % 23, [])
         lines += ["run 1"] + ["fresh"] * (k in (77, 78, 79, 150))
     return "\n".join(lines) + "\n"
 
@@ -199,6 +217,10 @@ def printable(text):
 def squeezed(text):
     """Without blanks, but for those of a trace, which are to be seen."""
     return re.sub("[ \u00a0]", "", text)
+
+
+def character_in(data, place):
+    return f"character {place} is {data[place - 1]:02X}"
 
 
 def trace_shown(data):
@@ -256,14 +278,14 @@ class Reading:
 
     def answered(self, text, asked=None):
         """What a call printed that has to do with the path."""
-        self.refusals += re.fullmatch(r"((container|unit|tx|rx) )?refused \d+", text) is not None
+        self.refusals += re.fullmatch(r"((container|unit|tx|rx) )?refused \d+( \d+)?", text) is not None
         if re.match("(ok|refused) ", text):
             changed = [mark for mark in self.marks if "xor" in mark[0]]
             marks = [mark for mark in self.marks if mark not in changed] + [(f"{len(changed)}bytesxor",)] if len(changed) > 1 else list(self.marks)
             if self.was_fed and not self.sent and not self.source and not self.filled:
                 marks.append(("again", "") if marks else ("again",))
             marks += [(f"{self.sent - 1}notfed",)] if self.sent > 1 else []
-            marks += [(squeezed(self.source), "refused" + self.source.split(" ")[-1])] if self.source else []
+            marks += [(squeezed(self.source), squeezed(self.source.split(" ", 1)[1]))] if self.source else []
             self.calls.append(Call(text, self.fresh, self.h1 << 8 | self.h2, self.length, (self.filled or (self.step if self.sent else [])) + marks))
             self.fresh = self.fresh and self.calls[-1].refused is not None
             self.sent, self.marks, self.was_fed, self.source = 0, [], True, None
@@ -319,7 +341,10 @@ class Reading:
             while answers[0].startswith("circuit ") and len(answers) <= len(data) // 42:
                 answers.append(self.take())
             number = f" {int(given[0])}" if name == "lookup" else ""
-            self.remarks.append((self.units_before(), told + behind, name + number, data.upper(), answers[1:] or answers))
+            answers = answers[1:] or answers
+            refused = re.fullmatch(r"(?:(?:cat|lookup) refused )?(?:5|20) (\d+) (\d+)", answers[0]) if name in ("cat", "lookup", "list") else None
+            more = [f"record {refused[1]}, {character_in(bytes.fromhex(data)[21 * int(refused[1]) - 16 :], int(refused[2]))}"] if refused else []
+            self.remarks.append((self.units_before(), told + behind, name + number, data.upper(), answers, more))
             return
         own = ""
         if name == "tx":
@@ -333,6 +358,9 @@ class Reading:
             own = f"heldfilledwith{given[0].upper()},donewith{given[1].upper()}"
         elif name == "lens":
             own = f"heldof{int(given[0])}bytes,doneof{int(given[1])}"
+        refused = re.fullmatch(rf"{name} refused (?:5|20) (\d+)", self.upcoming or "")
+        if name in ("tx", "rx") and refused:
+            own += f";{squeezed(character_in(trace_of(given[1]), int(refused[1])))}"
         elif name == "fresh" and self.calls:
             own = "fresh:sources,sinkandtotalbeginanew"
         if name not in ("show", "payload"):
@@ -369,12 +397,12 @@ class Reading:
         merged, notes, when = [], {}, None
         for remark in self.remarks:
             if len(remark) > 2:
-                units, comment, asked, data, answers = remark
+                units, comment, asked, data, answers, more = remark
                 head = "" if units == when or not any(call.unit for call in self.calls) else f"afterunit{units}" if units else "beforeunit1"
                 when = units
                 most = 8 * (42 if asked.split(" ")[0] in ("cat", "lookup", "list") and len(data) % 42 == 0 else 48)  # digits that are drawn
                 data = data if len(data) <= most else f"{data[:most]}({len(data) // 2})"
-                answers = answers if len(answers) <= 8 else answers[:8] + [f"and so on: {len(answers)} lines"]
+                answers = (answers if len(answers) <= 8 else answers[:8] + [f"and so on: {len(answers)} lines"]) + more
                 merged.append([f"{head}{comment}<{asked}|{data}|{'|'.join(answers)}>"])
                 continue
             place, text = remark
@@ -836,6 +864,18 @@ DAMAGE = {
         ("a blank too few", BLANK * 3 + "<", BLANK * 2 + "<", None),
         ("an answer too few", r'<text [^>]*data-row="answer"[^>]*>.*</text>\n', "", None),
         ("another question", r">lookup 7<", ">lookup 8<", None),
+    ],
+    "lessons/16-which-character.bench": [
+        ("another character", r">rx refused 5 3</text>\n<rect", ">rx refused 5 4</text>\n<rect", None),
+        ("above for below", r">rx refused 5 3</text>\n<rect", ">rx refused 20 3</text>\n<rect", None),
+        ("no character", r">rx refused 20 2</text>\n<rect", ">rx refused 20</text>\n<rect", None),
+        ("spaces alone with a character", r">rx refused 21</text>\n<rect", ">rx refused 21 1</text>\n<rect", None),
+        ("another byte in a note", r"character 3 is 09", "character 3 is 0A", None),
+        ("another place in a note", r"character 7 is DC", "character 8 is DC", None),
+        ("another character in a catalogue", r"cat\u00a0refused\u00a020\u00a02\u00a07", "cat\u00a0refused\u00a020\u00a02\u00a06", None),
+        ("another record", r">record 2, character 7 is DC<", ">record 1, character 7 is DC<", None),
+        ("another byte of a record", r">record 2, character 7 is DC<", ">record 2, character 7 is 44<", None),
+        ("a record's character left out", r'<text [^>]*data-row="answer"[^>]*>record 2, character 7 is DC</text>\n', "", None),
     ],
 }
 

@@ -40,7 +40,7 @@ def read_line(line):
 
 def trace_of(word):
     """The fifteen bytes of a trace in quotes, or of thirty hex digits."""
-    return word[1:-1].replace('""', '"').encode().ljust(15) if word.startswith('"') else bytes.fromhex(word)
+    return word[1:-1].replace('""', '"').encode(errors="surrogateescape").ljust(15) if word.startswith('"') else bytes.fromhex(word)
 
 
 def trace_refused(trace):

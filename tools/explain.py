@@ -6,7 +6,8 @@
     tools/explain.py SCRIPT --bench PROGRAM [ARGS..]  plays the script itself
 
 Comments of the script stand where they stand there. Units are counted through the whole script, and equal ones that follow each other
-have one sentence. Causes have the names of a tester beside ours, a refusal says what to do, a line that was not understood says why.
+have one sentence. Causes have the names of a tester beside ours, a refusal says what to do, and of a refused character which byte it is; a
+line that was not understood says why.
 What is said is what the printed lines and the script show; where they leave a cause open it is left open here.
 
     --brief      few short lines for a projector: large events only, no comments but the title
@@ -25,6 +26,7 @@ import shutil
 import subprocess
 import sys
 import textwrap
+import unicodedata
 
 sys.dont_write_bytecode = True  # no folder beside the tools
 import script
@@ -38,6 +40,7 @@ NDF = {0b0110: "normal", 0b1110: "normal", 0b0010: "normal", 0b0100: "normal", 0
        0b1001: "enabled", 0b0001: "enabled", 0b1101: "enabled", 0b1011: "enabled", 0b1000: "enabled"}
 I_BITS, D_BITS = 0x2AA, 0x155
 NO_ACTION = ["dRDI"]  # defects from which neither AIS nor RDI follows
+SIGNS = {0x00: "NUL", 0x09: "TAB", 0x0A: "LF", 0x0D: "CR", 0x1B: "ESC", 0x7F: "DEL"}  # what cannot be seen, and has a name
 LABELS = {0x00: "unequipped", 0x01: "equipped, non-specific", 0x02: "TUG structure", 0x12: "140 Mbit/s", 0x13: "ATM", 0xFE: "test signal", 0xFF: "alarm"}
 
 
@@ -125,9 +128,36 @@ def circuit_text(fields):
     return f"label {label_text(fields['label'])}, trace {trace_text(fields['trace'])}, {flags_text(fields['flags'])}"
 
 
-def bad_character(trace):
-    """`character 5 is 00` for the first that a trace cannot have; none where all are good."""
-    return next((f"character {place} is {c:02X}" for place, c in enumerate(trace, 1) if not 0x20 <= c <= 0x7E), None)
+def sign_of(data, code):
+    """The one sign that these bytes are in a code, as it looks, or by its name where it cannot be seen; none where they are no sign."""
+    try:
+        text = data.decode(code)
+    except UnicodeDecodeError:
+        return None
+    if len(text) == 1 and text.isprintable() and not unicodedata.combining(text):
+        return text
+    return unicodedata.name(text, "").lower() if len(text) == 1 else None
+
+
+def byte_text(trace, place):
+    """The character at a place, from 1, and what it is where that can be told: `09, TAB`; `DC, \u00dc in Latin-1`; `C3, which with 9C is \u00dc in UTF-8`."""
+    text, here = f"{trace[place - 1]:02X}", trace[place - 1 :]
+    if here[0] < 0x80:
+        return f"{text}, {SIGNS[here[0]]}" if here[0] in SIGNS else text
+    for length in (2, 3, 4):
+        sign = sign_of(here[:length], "utf-8")
+        if sign:
+            return f"{text}, which with {here[1:length].hex(' ').upper()} is {sign} in UTF-8"
+    sign = sign_of(here[:1], "cp1252")
+    return f"{text}, {sign} in {'Latin-1' if here[0] >= 0xA0 else 'Windows-1252'}" if sign else text
+
+
+def where_text(said):
+    """What a refusal names behind its number: ` in record 4 at character 2`."""
+    text = "".join(f" {place}" for place in said["places"] or [])
+    for name, words in (("record", " in record"), ("character", " at character"), ("first", ", as in record")):
+        text += f"{words} {said[name]}" if name in said else ""
+    return text
 
 
 def ones_in(number):
@@ -380,8 +410,8 @@ class Teller:
     # -- refusals
 
     def refusal(self, name, said, detail=None):
-        """`rx refused 4 in record 2`, and its words: what is wrong (with a detail of what is known) and what to do."""
-        number, places = said["number"], said["places"]
+        """`lookup refused 4 in record 2`, and its words: what is wrong (with a detail of what is known) and what to do."""
+        number = said["number"]
         wrong, to_do = self.words.refusals.get(number, (f"docs/REFUSALS.md has no words for {number}", ""))
         self.refused += 1
         if self.brief and number in self.named:
@@ -390,30 +420,32 @@ class Teller:
         if not self.brief and self.named[-1:] != [number]:  # advice is not given twice in a row
             text = f"{text}. {to_do}".rstrip()
         self.named.append(number)
-        where = f" in record {places[0]}" if len(places) == 1 else f" in record {places[0]}, as in record {places[1]}" if len(places) == 2 else ""
-        return f"{name} refused {number}{where}", text
+        return f"{name} refused {number}{where_text(said)}", text
 
     def refuse(self, name, said, detail=None):
         self.item("warn", ": ".join(self.refusal(name, said, detail)))
 
-    def settings_detail(self, number, settings):
+    def settings_detail(self, said, settings, whose, shown=True):
+        """What label, trace or violations have of what a refusal says; `shown`: the whole trace too, where it was not said just before."""
+        number, trace = said["number"], settings["trace"]
         if number == 4 and settings["label"] in (0x00, 0xFF):
             return f"the label is {settings['label']:02X}"
-        if number == 5 and bad_character(settings["trace"]):
-            return bad_character(settings["trace"])
+        if number in (5, 20) and script.trace_refused(trace[said["character"] - 1 : said["character"]]) == number:
+            whole = f" {trace_text(trace)}" if shown and not self.brief else ""
+            return f"character {said['character']} of {whose} trace{whole} is {byte_text(trace, said['character'])}"
         if number == 6 and settings.get("violations", 0) > 8:
             return f"{settings['violations']} are asked for"
         return None
 
     def catalogue_detail(self, said, data):
         """What the catalogue's bytes have at the place that a refusal names, where that is what it says."""
-        number, places = said["number"], said["places"]
+        number, place = said["number"], said["record"]
         if number == 9:
             rest = f", {len(data) % RECORD} more than a whole number of records" if len(data) % RECORD else ""
             return f"it has {bytes_text(len(data))}{rest}"
-        if not places or not 1 <= places[0] <= len(data) // RECORD:
+        if not place or place > len(data) // RECORD:
             return None
-        record = data[(places[0] - 1) * RECORD : places[0] * RECORD]
+        record = data[(place - 1) * RECORD : place * RECORD]
         circuit = int.from_bytes(record[2:4], "big")
         if number == 10:
             return f"it begins with {record[0]:02X} {record[1]:02X}"
@@ -423,8 +455,8 @@ class Teller:
             return f"circuit {circuit}, flags {record[20]}"
         if number == 13:
             return f"circuit {circuit}, trace {trace_text(record[5:20])}"
-        detail = self.settings_detail(number, {"label": record[4], "trace": record[5:20]})
-        return detail and f"circuit {circuit}, {detail}"
+        detail = self.settings_detail(said, {"label": record[4], "trace": record[5:20]}, "its")
+        return f"circuit {circuit}, {detail}" if detail else f"circuit {circuit}"
 
     # -- settings
 
@@ -435,16 +467,16 @@ class Teller:
             text += f", {counted(self.tx['violations'], 'violation')} returned in each container ({self.words.testers.get('fe=', 'REI')})"
         text += ", with remote defect (RDI)" if self.tx["remote"] else ", no remote defect"
         self.say(text, "")
-        self.order_form(step, self.tx)
+        self.order_form(step, self.tx, "the sent")
 
     def do_rx(self, step):
         self.rx = step.given
         self.say(f"rx: the sink is set to expect {circuit_text(self.rx)}", "")
-        self.order_form(step, self.rx)
+        self.order_form(step, self.rx, "the expected")
 
-    def order_form(self, step, settings):
+    def order_form(self, step, settings, whose):
         if step.answer:
-            self.refuse(step.name, step.answer, self.settings_detail(step.answer["number"], settings))
+            self.refuse(step.name, step.answer, self.settings_detail(step.answer, settings, whose, shown=False))
 
     def do_fresh(self, step):
         self.flush()
@@ -466,9 +498,9 @@ class Teller:
         said, asked = step.answer, step.given["asked"]
         turns = step.turn > 0  # of `run`: told with its unit
         if said.kind == "refused":
-            text = f"{said['call']} refused {said['number']}"
+            text = f"{said['call']} refused {said['number']}{where_text(said)}"
             if not turns or self.told_source != (step.line, text):  # of one `run` once, and then with each unit
-                detail = self.settings_detail(said["number"], self.tx) if said["call"] == "container" else None
+                detail = self.settings_detail(said, self.tx, "the sent") if said["call"] == "container" else None
                 self.refuse(said["call"], said, detail)
             else:
                 self.refused += 1
@@ -533,7 +565,7 @@ class Teller:
     def refused_call(self, step):
         number = step.answer["number"]
         detail = (f"the line has {bytes_text(step.fed.length)}" if number == 1 else
-                  f"held has {self.lengths['held']}, done {self.lengths['done']}" if number == 3 else self.settings_detail(number, self.rx))
+                  f"held has {self.lengths['held']}, done {self.lengths['done']}" if number == 3 else self.settings_detail(step.answer, self.rx, "the expected"))
         head, text = self.refusal("sink", step.answer, detail)
         return Told(None, False, [(text, text, "")], head)
 

@@ -10,8 +10,8 @@
 `pair` takes the printed lines one by one and only as many as a line of the script prints, so that it follows a bench that is still
 running. What is not a run of the script is a Fault that says where. Nothing here prints, and nothing is kept between calls.
 
-What a later language adds goes into four tables: COMMANDS (words of a command), CALLS (what a command may print), FIELDS (fields of a
-printed line) and FORMS (kinds of printed lines). A field that no table has is kept as text.
+What a later language adds goes into five tables: COMMANDS (words of a command), CALLS (what a command may print), FIELDS (fields of a
+printed line), FORMS (kinds of printed lines) and PLACES (what a refusal names). A field that no table has is kept as text.
 """
 
 import difflib
@@ -129,7 +129,8 @@ def pointer_word(word, what):
 def trace(word, what):
     if word.quoted is not None:
         if len(word.quoted) > 15:
-            raise Wrong(f"{what}: {shown(word)} has {len(word.quoted)} characters, and a trace has at most 15")
+            bytes_of = "" if word.isascii() else "; each byte counts, and a sign above 7E may have two or more"
+            raise Wrong(f"{what}: {shown(word)} has {len(word.quoted)} characters, and a trace has at most 15{bytes_of}")
         return word.quoted.ljust(15)
     if re.fullmatch(rb"[0-9A-Fa-f]{30}", word):
         return bytes.fromhex(word.decode("ascii"))
@@ -264,13 +265,19 @@ def calls(line):
         yield line.name, line.given
 
 
+def trace_refused(trace):
+    """The number by which a trace is refused: its earliest character below 20 or above 7E decides; 21 where all are spaces, 0 where it is good."""
+    wrong = next((character for character in trace if not 0x20 <= character <= 0x7E), None)
+    if wrong is not None:
+        return 5 if wrong < 0x20 else 20
+    return 21 if trace == b" " * 15 else 0
+
+
 def settings_refused(name, given):
     """The number by which `tx` or `rx` is refused at once; 0 where it is not."""
     if given["label"] in (0x00, 0xFF):
         return 4
-    if any(not 0x20 <= character <= 0x7E for character in given["trace"]):
-        return 5
-    return 6 if name == "tx" and given["violations"] > 8 else 0
+    return trace_refused(given["trace"]) or (6 if name == "tx" and given["violations"] > 8 else 0)
 
 
 # ---------------------------------------------------------------------------
@@ -356,9 +363,23 @@ def fields_of(text, needed):
     return fields
 
 
-def refusal_of(found):
-    numbers = [int(each) for each in found["numbers"].split(" ")]
-    return {"call": (found["call"] or "sink").strip(), "number": numbers[0], "places": numbers[1:]}
+# What a refusal names behind its number: the character of a trace, from 1 to 15, or the first record with a trace that comes again. In a
+# catalogue the record that is refused stands before it, but where it is no record that is. Of a number that is not here `places` are kept.
+PLACES = {**dict.fromkeys([*range(1, 15), 20, 21], ()), 5: ("character",), 13: ("first",), 20: ("character",)}
+NO_RECORD = (9, 14)
+
+
+def refusal_of(found, call=None):
+    """Whose refusal, its number, and `record`, `character` and `first` where it names them; None where it names too few or too many."""
+    call = call or (found["call"] or "sink").strip()
+    number, *places = [int(each) for each in found["numbers"].split(" ")]
+    if number not in PLACES:
+        return {"call": call, "number": number, "places": places}
+    names = ("record",) * (call in ("cat", "lookup", "list") and number not in NO_RECORD) + PLACES[number]
+    named = dict(zip(names, places))
+    if len(names) != len(places) or not 1 <= named.get("character", 1) <= 15:
+        return None
+    return {"call": call, "number": number, **named}
 
 
 # Kinds of printed lines: the form of the whole line, and its fields; a line is of the first kind whose form and fields it has.
@@ -375,7 +396,7 @@ FORMS = [
     ("heading", r"circuit label trace flags", lambda found: {}),
     ("record", r"(\d+) ([0-9A-F]{2}) \[([ -~]{15})\] (\d+)",
      lambda found: {"circuit": int(found[1]), "label": int(found[2], 16), "trace": found[3].encode("ascii"), "flags": int(found[4])}),
-    ("listing", r"(?P<call>)(?P<numbers>\d+(?: \d+)*)", lambda found: {**refusal_of(found), "call": "list"}),  # of a refused file
+    ("listing", r"(?P<call>)(?P<numbers>\d+(?: \d+)*)", lambda found: refusal_of(found, "list")),  # of a refused file
     ("parity", r"parity ([0-9A-F]{2})", lambda found: {"byte": int(found[1], 16)}),
     ("check", r"check ([01])", lambda found: {"good": found[1] == "1"}),
     ("read", r"read (\d+)", lambda found: {"number": int(found[1])}),

@@ -7,7 +7,7 @@
 Read is what the bench printed (docs/BENCH.md). A column is a call of the sink, or a refusal: a refusal is no unit and has
 no number. With the script its first comment is the title, what was done to a unit on the line stands above the unit,
 comments and settings have letters, and what was asked of the catalogue and of the host's functions stands below with its
-answers. Rows in which nothing stands are named at the foot and not drawn, but with --all. The picture has no size of its
+answers; where a character of a trace is refused, its place and its byte stand there too. Rows in which nothing stands are named at the foot and not drawn, but with --all. The picture has no size of its
 own: it fills a screen or a page. docs/PICTURES.md says what the rows are.
 
 Input that is not understood, or that has nothing in it to be drawn, gives a message and exit status 1, and no picture.
@@ -78,6 +78,12 @@ def bytes_lines(name, data):
     return first_of(lines, f"{len(data)} bytes") or ["no bytes"]
 
 
+def character_of(said, trace):
+    """`character 3 is 09`, where a refusal names a character of this trace; none where it names none."""
+    place = said["character"] if said else None
+    return f"character {place} is {trace[place - 1]:02X}" if place and place <= len(trace) else None
+
+
 def first_of(lines, all_of_it):
     """As many lines as a picture has room for, and how much it would be."""
     return lines if len(lines) <= MOST_LINES else lines[:MOST_LINES] + [f"and so on: {all_of_it}"]
@@ -114,6 +120,9 @@ class Question:
         texts = texts[1:] if len(texts) > 1 else texts  # a listing's heading says nothing where there are lines below it
         self.answers = [as_printed(line) for line in first_of(texts, f"{len(texts)} lines")]
         self.refused = step.answer.kind in ("refused", "listing")
+        record = step.answer["record"] or 0
+        character = character_of(step.answer, step.given["bytes"][21 * record - 16 : 21 * record - 1]) if record else None
+        self.answers += [f"record {record}, {character}"] if character else []
 
 
 class Run:
@@ -273,7 +282,9 @@ def said_of(step, run):
         return f"line {step.line.number} not understood: {fixed(script.shown(words))}: {script.clean(step.why)}"
     if step.name == "fresh":
         return "fresh: sources, sink and total begin anew" if run.columns else ""
-    return SETTINGS[step.name](step.given) if step.name in SETTINGS else ""
+    text = SETTINGS[step.name](step.given) if step.name in SETTINGS else ""
+    character = character_of(step.answer, step.given["trace"]) if step.name in ("tx", "rx") else None
+    return f"{text}; {character}" if character else text
 
 
 def comment_of(line):
