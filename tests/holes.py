@@ -143,7 +143,7 @@ TRIALS = [
     rowed("## [13. How a call is refused]", "## [13. How calls are refused]", "and should be 1. The card's share of the path"),
     # a rule that no row gives a definition, and no word on it; a definition, of a promise and of demand 3, that no rule has
     rowed("flags above 15 | `records/Record.flagsRefused` |", "flags above 15 | none |", "docs/CARD.md:", "rule 12.12 has no definition in docs/RULES.md"),
-    rowed(", `settings/Settings.any`", "", "settings/Settings.any (crates/settings/specs/Settings.antt:", "stands in the row of no rule"),
+    rowed(", `settings/Settings.judged`", "", "settings/Settings.judged (crates/settings/specs/Settings.antt:", "stands in the row of no rule"),
     rowed(", `settles/Demand.logOf`", "", "settles/Demand.logOf (", "to which settles/proofs/Settled.demand-3 comes, stands in the row of no rule"),
     # rules named elsewhere
     named("lessons/README.md", "\nSee rule 4.99.\n", "there is no rule 4.99"),
@@ -157,7 +157,7 @@ TRIALS = [
     Trial("docs/RULES.md", None, "| a | none | `card::card_parity` | none |\n", [RULES], ["docs/RULES-INDEX.md:", "names are missing", "`card::card_parity`"]),
     Trial("docs/RULES-INDEX.md", None, "\n[`case peek`](../README.md)\n", [RULES], ["docs/RULES-INDEX.md:", "`case peek` stands in no table"]),
     # an entry point that asks something of its caller
-    Trial("crates/card/src/lib.rt", "fn card_settings_check(label: u8, trace: &[u8]) -> u8\n", "fn card_settings_check(label: u8, trace: &[u8]) -> u8\n    requires { ⌜ label ≡ 1 ⌝ }\n",
+    Trial("crates/card/src/lib.rt", "fn card_settings_check(label: u8, trace: &[u8]) -> CardRefusal\n", "fn card_settings_check(label: u8, trace: &[u8]) -> CardRefusal\n    requires { ⌜ label ≡ 1 ⌝ }\n",
           [RULES, PROMISES], ["card::card_settings_check", "has a requires"]),
     # a library that rests on a program's part
     Trial("crates.txt", "\ncard: parity", "\ncard: bench_say parity", [RULES, PROMISES], ["crates.txt: card rests on bench_say, a part of the program bench"]),
