@@ -4,23 +4,26 @@ use catalogue::Checked;
 use catalogue::Found;
 use records::Refusal;
 
-fn say_refused(what: &[u8], x: Refusal) {
+fn say_refusal(what: &[u8], x: Refusal) {
     let places = records::named(x);
-    bench_say::refused(what, records::number(x), places.first, places.second);
+    bench_say::refusal(what, records::number(x), places.first, places.second);
 }
 
 // `cat`
 fn check(s: &[u8]) {
-    match catalogue::check(s) {
+    let c = catalogue::check(s);
+    let checked = c.checked;
+    match checked {
         Checked::Good(n) => {
             bench_say::text(b"cat ok ");
             bench_say::decimal(n as u64);
         }
         Checked::Refused(x) => {
-            say_refused(b"cat refused ", x);
-            return;
+            say_refusal(b"cat refused ", x);
         }
     }
+    bench_say::text(b" pairs=");
+    bench_say::decimal(c.pairs as u64);
     bench_say::text(b"\n");
 }
 
@@ -39,8 +42,7 @@ fn look_up(number: u32, s: &[u8]) {
             bench_say::decimal(flags as u64);
         }
         Found::Not(x) => {
-            say_refused(b"lookup refused ", x);
-            return;
+            say_refusal(b"lookup refused ", x);
         }
     }
     bench_say::text(b"\n");

@@ -84,11 +84,16 @@ fn place(p: usize) {
 }
 
 // What was refused, the refusal's number, and the places that it names, at most two, 0 for none.
-pub fn refused(what: &[u8], number: u8, first: usize, second: usize) {
+pub fn refusal(what: &[u8], number: u8, first: usize, second: usize) {
     text(what);
     decimal(number as u64);
     place(first);
     place(second);
+}
+
+// The same as a line.
+pub fn refused(what: &[u8], number: u8, first: usize, second: usize) {
+    refusal(what, number, first, second);
     text(b"\n");
 }
 

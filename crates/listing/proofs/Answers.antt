@@ -13,9 +13,9 @@ use Rattle.records.specs.Record.{oldKind, mostRecords}
 use Rattle.records.proofs.Places.{old-serves}
 use Rattle.records.specs.declared.Kind.{Kind}
 use Rattle.records.specs.declared.Refusal.{Refusal}
-use Rattle.catalogue.specs.declared.Checked.{Checked}
 use Rattle.catalogue.specs.declared.Checked.the-variants.{Good, Refused}
-use Rattle.catalogue.proofs.Answers.{good-length}
+use Rattle.catalogue.specs.declared.Counted.{Counted}
+use Rattle.catalogue.proofs.Answers.{good-length, checked-is}
 use Rattle.listing.specs.Listing.{heading, linesFrom, refusalLine, textOf, listingOf, Listed}
 use Rattle.listing.specs.Inner.{Within}
 
@@ -41,10 +41,10 @@ pub listed-part : (kind : Kind) (s b a : List ℕ) (n : ℕ) → Listed kind s b
 listed-part kind s b a n l = sym (length-take-le n a (listed-there kind s b a n l))
 
 -- c is what the check answered, of the kind that 01 has
-module _ (s : List ℕ) (c : Checked) (is-c : Checks oldKind s c) where
-  module _ (n : ℕ) (e : c ≡ Good n) where
+module _ (s : List ℕ) (c : Counted) (is-c : Checks oldKind s c) where
+  module _ (n : ℕ) (e : c .checked ≡ Good n) where
     whole : (length s ≡ oldKind .length * n) × (n ≤ mostRecords)
-    whole = good-length oldKind s n (old-serves oldKind refl) (sym (is-c .answer-is) ∙ e)
+    whole = good-length oldKind s n (old-serves oldKind refl) (sym (checked-is oldKind s c is-c) ∙ e)
 
     pub good-room : (b : List ℕ) → length b ≡ 15898 → 26 + 31 * n ≤ length b
     good-room b l = omega (arith, whole .1)
@@ -56,8 +56,8 @@ module _ (s : List ℕ) (c : Checked) (is-c : Checks oldKind s c) where
 
       pub good-listed : (b a : List ℕ) (k : ℕ) → length a ≡ length b → length b ≡ 15898 → Written 0 (heading ++ linesFrom kind s 0 n) b a k → Listed oldKind s b a k
       unfolding listingOf textOf
-      good-listed b a k q l w = listed oldKind s (heading ++ linesFrom kind s 0 n) b a k (rw (← (is-c .answer-is), e, is-kind)) q l w
+      good-listed b a k q l w = listed oldKind s (heading ++ linesFrom kind s 0 n) b a k (rw (← (checked-is oldKind s c is-c), e, is-kind)) q l w
 
-  pub refused-listed : (x : Refusal) → c ≡ Refused x → (b a : List ℕ) (k : ℕ) → length a ≡ length b → length b ≡ 15898 → Written 0 (refusalLine x) b a k → Listed oldKind s b a k
+  pub refused-listed : (x : Refusal) → c .checked ≡ Refused x → (b a : List ℕ) (k : ℕ) → length a ≡ length b → length b ≡ 15898 → Written 0 (refusalLine x) b a k → Listed oldKind s b a k
   unfolding listingOf textOf
-  refused-listed x e b a k q l w = listed oldKind s (refusalLine x) b a k (rw (← (is-c .answer-is), e)) q l w
+  refused-listed x e b a k q l w = listed oldKind s (refusalLine x) b a k (rw (← (checked-is oldKind s c is-c), e)) q l w

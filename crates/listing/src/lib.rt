@@ -140,7 +140,8 @@ fn refusal_line(out: &mut [u8], x: Refusal) -> usize
 pub fn list(s: &[u8], out: &mut [u8; 15898]) -> usize
     ensures { λ n. ⌜ Listed oldKind (now (s .entry)) (now (out .entry)) (now (out .exit)) n ⌝ }
 {
-    match catalogue::check(s) {
+    let checked = catalogue::check(s).checked;
+    match checked {
         Checked::Good(n) => good(records::old_kind(), out, s, n),
         Checked::Refused(x) => refusal_line(out, x),
     }

@@ -8,12 +8,13 @@ use lib.Dec.{eqb}
 use lib.ListN.{length}
 use Rattle.records.specs.declared.PlaceList.{PlaceList}
 use Rattle.records.specs.Refusals.{catalogueNumber, cataloguePlaces, placesGiven}
-use Rattle.catalogue.specs.Catalogue.{checkOf, Checks, lookupOf, LooksUp}
-use Rattle.probe.specs.Probe.{packed, packedCheck, packedFound}
+use Rattle.catalogue.specs.Catalogue.{countedOf, Checks, lookupOf, LooksUp}
+use Rattle.probe.specs.Probe.{packed, packedChecked, packedCheck, packedFound}
 use Rattle.records.specs.declared.Kind.{Kind}
 use Rattle.records.specs.declared.Refusal.{Refusal}
 use Rattle.catalogue.specs.declared.Checked.{Checked}
 use Rattle.catalogue.specs.declared.Checked.the-variants.{Good, Refused}
+use Rattle.catalogue.specs.declared.Counted.{Counted}
 use Rattle.catalogue.specs.declared.Found.{Found}
 use Rattle.catalogue.specs.declared.Found.the-variants.{Entry, Not}
 use Rattle.catalogue.specs.declared.Looked.{Looked}
@@ -25,16 +26,21 @@ pub packed-is : (x : Refusal) (n r : ℕ) (p : PlaceList) → n ≡ catalogueNum
 unfolding packed
 packed-is x n r p is-n is-p e = e ∙ rw (is-n, is-p)
 
--- ---- the check, which answered c
+-- ---- the check
 
-module _ (kind : Kind) (s : List ℕ) (c : Checked) (is-c : Checks kind s c) (r : ℕ) where
-  pub check-good : (n : ℕ) → c ≡ Good n → r ≡ n → r ≡ packedCheck (checkOf kind s)
-  unfolding packedCheck
-  check-good n e f = rw (← (is-c .answer-is), e) f
+module _ (c : Checked) (r : ℕ) where
+  pub checked-good : (n : ℕ) → c ≡ Good n → r ≡ n → r ≡ packedChecked c
+  unfolding packedChecked
+  checked-good n e f = rw e f
 
-  pub check-refused : (x : Refusal) → c ≡ Refused x → r ≡ packed x → r ≡ packedCheck (checkOf kind s)
-  unfolding packedCheck
-  check-refused x e f = rw (← (is-c .answer-is), e) f
+  pub checked-refused : (x : Refusal) → c ≡ Refused x → r ≡ packed x → r ≡ packedChecked c
+  unfolding packedChecked
+  checked-refused x e f = rw e f
+
+-- c is what it answered, of which n was packed
+pub check-packed : (kind : Kind) (s : List ℕ) (c : Counted) (n r : ℕ) → Checks kind s c → n ≡ packedChecked (c .checked) → r ≡ c .pairs % 16777216 * 1099511627776 + n % 1099511627776 → r ≡ packedCheck (countedOf kind s)
+unfolding packedCheck
+check-packed kind s c n r is-c is-n e = rw (← (is-c .answer-is), ← is-n) e
 
 -- ---- what was found
 

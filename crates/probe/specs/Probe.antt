@@ -4,6 +4,7 @@ use Rattle.records.specs.Refusals.{catalogueNumber, cataloguePlaces, placesGive
 use Rattle.records.specs.declared.Refusal.{Refusal}
 use Rattle.catalogue.specs.declared.Checked.{Checked}
 use Rattle.catalogue.specs.declared.Checked.the-variants.{Good, Refused}
+use Rattle.catalogue.specs.declared.Counted.{Counted}
 use Rattle.catalogue.specs.declared.Found.{Found}
 use Rattle.catalogue.specs.declared.Found.the-variants.{Entry, Not}
 
@@ -13,9 +14,13 @@ packed x =
     catalogueNumber x * 4294967296 + placesGiven (cataloguePlaces x) .first % 65536 * 65536 + placesGiven (cataloguePlaces x) .second % 65536
 
 -- a good catalogue: the number of its records
-unfoldable pub packedCheck : Checked → ℕ
-packedCheck (Good n) = n
-packedCheck (Refused x) = packed x
+unfoldable pub packedChecked : Checked → ℕ
+packedChecked (Good n) = n
+packedChecked (Refused x) = packed x
+
+-- above that, in the number's top 24 bits: how many pairs were compared
+unfoldable pub packedCheck : Counted → ℕ
+packedCheck c = c .pairs % 16777216 * 1099511627776 + packedChecked (c .checked) % 1099511627776
 
 -- an entry: the label and the flags
 unfoldable pub packedFound : Found → ℕ

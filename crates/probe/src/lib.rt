@@ -8,9 +8,9 @@ ghost use lib.ListN.{length};
 ghost use Rattle.trace_message.specs.Message.{startByte};
 ghost use Rattle.word.specs.Word.{plainWord, invertedWord, inverted};
 ghost use Rattle.records.specs.Record.{oldKind};
-ghost use Rattle.catalogue.specs.Catalogue.{checkOf, lookupOf};
+ghost use Rattle.catalogue.specs.Catalogue.{countedOf, lookupOf};
 ghost use Rattle.listing.specs.Listing.{Listed};
-ghost use Rattle.probe.specs.Probe.{packed, packedCheck, packedFound};
+ghost use Rattle.probe.specs.Probe.{packed, packedChecked, packedCheck, packedFound};
 use catalogue::Checked;
 use catalogue::Found;
 use records::Refusal;
@@ -78,15 +78,30 @@ fn pack_refusal(x: Refusal) -> u64
     pack(records::number(x), places.first, places.second)
 }
 
-// The check of a catalogue.
-#[no_mangle]
-pub extern "C" fn probe_check(s: &[u8]) -> u64
-    ensures { λ r. ⌜ r ≡ packedCheck (checkOf oldKind (now (s .entry))) ⌝ }
+// How many pairs were compared, above the number of an answer.
+fn with_pairs(pairs: usize, checked: u64) -> u64
+    ensures { λ r. ⌜ r ≡ pairs % 16777216 * 1099511627776 + checked % 1099511627776 ⌝ }
 {
-    match catalogue::check(s) {
+    wide(pairs) % 16777216 * 1099511627776 + checked % 1099511627776
+}
+
+fn pack_checked(c: Checked) -> u64
+    ensures { λ r. ⌜ r ≡ packedChecked c ⌝ }
+{
+    match c {
         Checked::Good(n) => wide(n),
         Checked::Refused(x) => pack_refusal(x),
     }
+}
+
+// The check of a catalogue.
+#[no_mangle]
+pub extern "C" fn probe_check(s: &[u8]) -> u64
+    ensures { λ r. ⌜ r ≡ packedCheck (countedOf oldKind (now (s .entry))) ⌝ }
+{
+    let c = catalogue::check(s);
+    let checked = c.checked;
+    with_pairs(c.pairs, pack_checked(checked))
 }
 
 fn pack_found(f: Found) -> u64

@@ -16,7 +16,8 @@ use Rattle.records.specs.declared.Kind.{Kind}
 use Rattle.records.specs.declared.First.{First}
 use Rattle.records.specs.declared.PlaceList.{PlaceList}
 use Rattle.card.specs.declared.CardRefusal.{CardRefusal}
-use Rattle.catalogue.specs.declared.Checked.{Checked}
+use Rattle.pairs.specs.declared.Visited.{Visited}
+use Rattle.catalogue.specs.declared.Counted.{Counted}
 use Rattle.catalogue.specs.declared.Looked.{Looked}
 use Rattle.parity.proofs.parity.Kinds as parity
 use Rattle.parity.proofs.parity.Reads as parity-promise
@@ -64,6 +65,8 @@ use Rattle.word.proofs.plain.Kinds as word-plain
 use Rattle.word.proofs.plain.Reads as word-plain-promise
 use Rattle.word.proofs.adjusting.Kinds as word-adjusting
 use Rattle.word.proofs.adjusting.Reads as word-adjusting-promise
+use Rattle.pairs.proofs.first_repeat.Kinds as pairs-first-repeat
+use Rattle.pairs.proofs.first_repeat.Reads as pairs-first-repeat-promise
 use Rattle.catalogue.proofs.check.Kinds as catalogue-check
 use Rattle.catalogue.proofs.check.Reads as catalogue-check-promise
 use Rattle.catalogue.proofs.lookup.Kinds as catalogue-lookup
@@ -211,7 +214,10 @@ word-adjusting-determined κs a x y s t p q = p ∙ sym q
 
 -- ---- catalogue
 
-pub catalogue-check-determined : Determines {O = Checked} 1 catalogue-check.ps catalogue-check.r catalogue-check-promise.Post (λ κs r e. r)
+pub pairs-first-repeat-determined : Determines {O = Visited} 1 pairs-first-repeat.ps pairs-first-repeat.r pairs-first-repeat-promise.Post (λ κs r e. r)
+pairs-first-repeat-determined κs a x y s t p q = p ∙ sym q
+
+pub catalogue-check-determined : Determines {O = Counted} 1 catalogue-check.ps catalogue-check.r catalogue-check-promise.Post (λ κs r e. r)
 catalogue-check-determined κs a x y s t p q = p .answer-is ∙ sym (q .answer-is)
 
 pub catalogue-lookup-determined : Determines {O = Looked} 1 catalogue-lookup.ps catalogue-lookup.r catalogue-lookup-promise.Post (λ κs r e. r)

@@ -8,8 +8,8 @@ use Rattle.listing.proofs.list.Tie as tie
 check-requires : tie.Need-check-requires
 check-requires c κs = search needs
 
-enum-known-n : tie.Need-enum-known-n
-enum-known-n c = search needs
+enum-known-checked : tie.Need-enum-known-checked
+enum-known-checked c = search needs
 
 old-kind-requires : tie.Need-old-kind-requires
 old-kind-requires c κs = search needs
@@ -17,8 +17,8 @@ old-kind-requires c κs = search needs
 good-requires : tie.Need-good-requires
 good-requires c κs = (search old-serves, (search good-records, search good-room))
 
-enum-known-x : tie.Need-enum-known-x
-enum-known-x c = search needs
+enum-known-checked-2 : tie.Need-enum-known-checked-2
+enum-known-checked-2 c = search needs
 
 refusal-line-requires : tie.Need-refusal-line-requires
 refusal-line-requires c κs = search needs
@@ -34,10 +34,10 @@ list-spec =
     tie.close
     (tie.spec
     check-requires
-    enum-known-n
+    enum-known-checked
     old-kind-requires
     good-requires
-    enum-known-x
+    enum-known-checked-2
     refusal-line-requires
     returns
     returns-2)
