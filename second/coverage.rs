@@ -9,7 +9,7 @@ use super::rules::counts::{
     LAST_PLACE, MOST_ALARM_WORDS, MOST_ALIKE_WORDS, MOST_ENABLED_WORDS, MOST_EQUAL, MOST_INVALID_WORDS, MOST_WITHOUT,
 };
 use super::rules::{
-    adjustment, inverted, trace_fault, Answer, Expected, Given, Overhead, Place, Pointer, PointerReader, Refusal, Shape,
+    adjustment, inverted, trace_fault, Answer, Checked, Expected, Given, Overhead, Place, Pointer, PointerReader, Refusal, Shape,
     Sink, Taken, Watch, Word, AU4, RECORD_LENGTH,
 };
 use std::collections::{HashMap, HashSet};
@@ -763,7 +763,8 @@ pub fn payload_asked(place: Option<Place>, ais: bool, note: Note) {
 }
 
 /// The check of a catalogue, and the faults that its refusal came before.
-pub fn checked(answer: &Result<usize, Refusal>, bytes: &[u8], note: Note) {
+pub fn checked(checked: &Checked, bytes: &[u8], note: Note) {
+    let answer = &checked.answer;
     note(match answer {
         Ok(0) => "catalogue.none",
         Ok(512) => "catalogue.512",

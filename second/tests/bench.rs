@@ -248,7 +248,7 @@ fn lines_not_understood() {
     assert_eq!(ran("len 0\nxor 0 00\nshow\n"), "? 2\nline \n");
     assert_eq!(ran("len 4\nword 9abC\nxor 003 fF\n show # now\n"), "line 9A000043\n");
     assert_eq!(ran("parity\nparity 0f01\ncheck\nread\nread 6800\n"), "parity 00\nparity 0E\ncheck 0\nread 0\nread 6144\n");
-    assert_eq!(ran("cat\nlist\nlookup 7\n"), "cat ok 0\ncircuit label trace flags\nlookup refused 14\n");
+    assert_eq!(ran("cat\nlist\nlookup 7\n"), "cat ok 0 pairs=0\ncircuit label trace flags\nlookup refused 14\n");
     assert_eq!(ran("lens 000004096 0\nsink\nfresh\nsink\n").lines().next(), Some("refused 3"));
 }
 
@@ -315,7 +315,7 @@ fn catalogues_name_the_record_and_the_character() {
         (&spaces, "21 3"),
     ] {
         let bytes = format!("{good}{other}{}{}", record(3, trace), record(4, &spaces));
-        let printed = format!("cat refused {want}\nlookup refused {want}\nlookup refused {want}\n{want}\n");
+        let printed = format!("cat refused {want} pairs=0\nlookup refused {want}\nlookup refused {want}\n{want}\n");
         assert_eq!(ran(format!("cat {bytes}\nlookup 1 {bytes}\nlookup 9 {bytes}\nlist {bytes}\n")), printed);
     }
 }

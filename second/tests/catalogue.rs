@@ -25,6 +25,11 @@ fn good(count: usize) -> Vec<u8> {
     bytes
 }
 
+/// The check's answer without its count.
+fn answer(bytes: &[u8]) -> Result<usize, Refusal> {
+    catalogue_check(bytes).answer
+}
+
 #[test]
 fn the_example_of_the_listing() {
     let mut bytes = vec![0x5A, 0x4D, 0x00, 0x07, 0x12];
@@ -35,7 +40,7 @@ fn the_example_of_the_listing() {
         listing(&bytes),
         b"circuit label trace flags\n7 12 [03E5           ] 15\n"
     );
-    assert_eq!(catalogue_check(&bytes), Ok(1));
+    assert_eq!(answer(&bytes), Ok(1));
     assert_eq!(
         lookup(&bytes, 7),
         Ok(Record {
@@ -49,7 +54,7 @@ fn the_example_of_the_listing() {
 
 #[test]
 fn an_empty_file_is_a_good_catalogue_of_none() {
-    assert_eq!(catalogue_check(&[]), Ok(0));
+    assert_eq!(answer(&[]), Ok(0));
     assert_eq!(listing(&[]), b"circuit label trace flags\n");
     assert_eq!(lookup(&[], 1), Err(refused(14, &[])));
 }
@@ -57,30 +62,30 @@ fn an_empty_file_is_a_good_catalogue_of_none() {
 #[test]
 fn lengths() {
     assert_eq!(LONGEST_CATALOGUE, 10_752);
-    assert_eq!(catalogue_check(&good(512)), Ok(512));
-    assert_eq!(catalogue_check(&good(513)), Err(refused(9, &[])));
+    assert_eq!(answer(&good(512)), Ok(512));
+    assert_eq!(answer(&good(513)), Err(refused(9, &[])));
     for length in 1..=2 * RECORD_LENGTH {
         let bytes = &good(2)[..length];
         if length % RECORD_LENGTH == 0 {
-            assert_eq!(catalogue_check(bytes), Ok(length / RECORD_LENGTH));
+            assert_eq!(answer(bytes), Ok(length / RECORD_LENGTH));
         } else {
-            assert_eq!(catalogue_check(bytes), Err(refused(9, &[])));
+            assert_eq!(answer(bytes), Err(refused(9, &[])));
         }
     }
 }
 
 #[test]
 fn length_comes_before_all_else() {
-    assert_eq!(catalogue_check(&[0x00; 22]), Err(refused(9, &[])));
+    assert_eq!(answer(&[0x00; 22]), Err(refused(9, &[])));
     assert_eq!(listing(&[0x00; 22]), b"9\n");
     assert_eq!(lookup(&[0x00; 22], 0), Err(refused(9, &[])));
-    assert_eq!(catalogue_check(&[0x00; 513 * 21]), Err(refused(9, &[])));
+    assert_eq!(answer(&[0x00; 513 * 21]), Err(refused(9, &[])));
 }
 
 #[test]
 fn bounds_of_each_field() {
     let one = |circuit, label, trace: &[u8], flags| {
-        catalogue_check(&record(circuit, label, trace, flags))
+        answer(&record(circuit, label, trace, flags))
     };
     assert_eq!(one(0, 0x12, b"A", 0), Err(refused(11, &[1])));
     assert_eq!(one(1, 0x12, b"A", 0), Ok(1));
@@ -106,7 +111,7 @@ fn the_record_comes_first_and_then_the_character() {
     for (trace, refusal) in refused_traces() {
         let bytes = [good(3), record(4, 0x12, &trace, 0x10), record(0, 0x00, &trace, 0)].concat();
         let places = [&[4], &refusal.places[..]].concat();
-        assert_eq!(catalogue_check(&bytes), Err(refused(refusal.number, &places)));
+        assert_eq!(answer(&bytes), Err(refused(refusal.number, &places)));
         assert_eq!(lookup(&bytes, 1), Err(refused(refusal.number, &places)));
     }
     let listed = |character: u8, place: usize| {
@@ -127,8 +132,8 @@ fn each_character_of_a_listed_trace() {
             let mut trace = *b"ABCDEFGHIJKLMNO";
             trace[place] = character;
             let bytes = [good(1), record(2, 0x12, &trace, 0)].concat();
-            let answer = refused_at(place, character).map_or(Ok(2), |refusal| Err(refusal.in_record(2)));
-            assert_eq!(catalogue_check(&bytes), answer);
+            let want = refused_at(place, character).map_or(Ok(2), |refusal| Err(refusal.in_record(2)));
+            assert_eq!(answer(&bytes), want);
         }
     }
 }
@@ -139,7 +144,7 @@ fn either_byte_of_the_mark_may_be_wrong() {
         for bit in 0..8 {
             let mut bytes = good(2);
             bytes[RECORD_LENGTH + place] ^= 1 << bit;
-            assert_eq!(catalogue_check(&bytes), Err(refused(10, &[2])));
+            assert_eq!(answer(&bytes), Err(refused(10, &[2])));
         }
     }
 }
@@ -156,27 +161,27 @@ fn faults_of_one_record_come_in_the_order_10_11_4_trace_12() {
     bytes.extend(record(3, 0x12, b"A", 0));
     let at = RECORD_LENGTH;
 
-    assert_eq!(catalogue_check(&bytes), Err(refused(10, &[2])));
+    assert_eq!(answer(&bytes), Err(refused(10, &[2])));
     assert_eq!(listing(&bytes), b"10 2\n");
     bytes[at] = 0x5A;
-    assert_eq!(catalogue_check(&bytes), Err(refused(10, &[2])));
+    assert_eq!(answer(&bytes), Err(refused(10, &[2])));
     bytes[at + 1] = 0x4D;
-    assert_eq!(catalogue_check(&bytes), Err(refused(11, &[2])));
+    assert_eq!(answer(&bytes), Err(refused(11, &[2])));
     bytes[at + 3] = 0x0F;
-    assert_eq!(catalogue_check(&bytes), Err(refused(4, &[2])));
+    assert_eq!(answer(&bytes), Err(refused(4, &[2])));
     bytes[at + 4] = 0xFE;
-    assert_eq!(catalogue_check(&bytes), Err(refused(20, &[2, 1])));
+    assert_eq!(answer(&bytes), Err(refused(20, &[2, 1])));
     bytes[at + 5..at + 7].copy_from_slice(&[0x7E, 0x1F]);
-    assert_eq!(catalogue_check(&bytes), Err(refused(5, &[2, 2])));
+    assert_eq!(answer(&bytes), Err(refused(5, &[2, 2])));
     bytes[at + 5..at + 20].fill(0x20);
-    assert_eq!(catalogue_check(&bytes), Err(refused(21, &[2])));
+    assert_eq!(answer(&bytes), Err(refused(21, &[2])));
     bytes[at + 5..at + 20].fill(0x7E);
-    assert_eq!(catalogue_check(&bytes), Err(refused(12, &[2])));
+    assert_eq!(answer(&bytes), Err(refused(12, &[2])));
     bytes[at + 20] = 0x0F;
-    assert_eq!(catalogue_check(&bytes), Err(refused(13, &[3, 1])));
+    assert_eq!(answer(&bytes), Err(refused(13, &[3, 1])));
     assert_eq!(listing(&bytes), b"13 3 1\n");
     bytes[2 * at + 5] = b'B';
-    assert_eq!(catalogue_check(&bytes), Ok(3));
+    assert_eq!(answer(&bytes), Ok(3));
 }
 
 #[test]
@@ -185,7 +190,7 @@ fn an_earlier_record_comes_before_a_later_one() {
     let mut bytes = good(3);
     bytes[RECORD_LENGTH + 20] = 0xFF;
     bytes[2 * RECORD_LENGTH] = 0x00;
-    assert_eq!(catalogue_check(&bytes), Err(refused(12, &[2])));
+    assert_eq!(answer(&bytes), Err(refused(12, &[2])));
 }
 
 #[test]
@@ -204,7 +209,7 @@ fn refusal_13_names_the_earliest_later_with_the_first() {
         for (index, trace) in traces.iter().enumerate() {
             bytes.extend(record(index as u16 + 1, 0x12, trace, 0));
         }
-        catalogue_check(&bytes)
+        answer(&bytes)
     };
     // 4 repeats 1, but 3 repeats 2 earlier.
     assert_eq!(of(&[b"A", b"B", b"B", b"A"]), Err(refused(13, &[3, 2])));
@@ -224,7 +229,7 @@ fn lookup_gives_the_first_record_with_the_number() {
     let mut bytes = record(9, 0x13, b"A", 1);
     bytes.extend(record(0x1234, 0x12, b"B", 2));
     bytes.extend(record(0x1234, 0x02, b"C", 3));
-    assert_eq!(catalogue_check(&bytes), Ok(3));
+    assert_eq!(answer(&bytes), Ok(3));
     assert_eq!(
         lookup(&bytes, 0x1234),
         Ok(Record {
@@ -285,7 +290,7 @@ fn every_input_is_answered() {
         word_reading(&bytes);
         let text = listing(&bytes);
         assert_eq!(text.last(), Some(&b'\n'));
-        match catalogue_check(&bytes) {
+        match answer(&bytes) {
             Ok(count) => assert_eq!(count * RECORD_LENGTH, bytes.len()),
             Err(refusal) => assert_eq!(lookup(&bytes, 1), Err(refusal)),
         }
