@@ -25,9 +25,28 @@ fn good(count: usize) -> Vec<u8> {
     bytes
 }
 
+/// The same, but the record at the second place has the trace of the one at the
+/// first, both counted from 1.
+fn repeated(count: usize, first: usize, later: usize) -> Vec<u8> {
+    let mut bytes = good(count);
+    let at = |place: usize| (place - 1) * RECORD_LENGTH + 5;
+    bytes.copy_within(at(first)..at(first) + 15, at(later));
+    bytes
+}
+
 /// The check's answer without its count.
 fn answer(bytes: &[u8]) -> Result<usize, Refusal> {
     catalogue_check(bytes).answer
+}
+
+/// Its count alone.
+fn pairs(bytes: &[u8]) -> usize {
+    catalogue_check(bytes).pairs
+}
+
+/// "at most n(n-1)/2 for n records"
+fn most_pairs(count: usize) -> usize {
+    count * count.saturating_sub(1) / 2
 }
 
 #[test]
@@ -225,6 +244,120 @@ fn refusal_13_names_the_earliest_later_with_the_first() {
 }
 
 #[test]
+fn pairs_are_counted() {
+    let of = |bytes: &[u8]| {
+        let checked = catalogue_check(bytes);
+        (checked.answer, checked.pairs)
+    };
+    assert_eq!(of(&good(512)), (Ok(512), 130_816));
+    // A repeat of record 1 at record 2.
+    for count in [2, 3, 512] {
+        assert_eq!(of(&repeated(count, 1, 2)), (Err(refused(13, &[2, 1])), 1));
+    }
+    assert_eq!(of(&repeated(3, 1, 3)), (Err(refused(13, &[3, 1])), 2));
+    assert_eq!(of(&repeated(3, 2, 3)), (Err(refused(13, &[3, 2])), 3));
+    // More than 16 bits hold, and refused.
+    assert_eq!(of(&repeated(512, 1, 512)), (Err(refused(13, &[512, 1])), 130_306));
+}
+
+#[test]
+fn all_pairs_where_no_trace_is_repeated() {
+    for count in (0..=20).chain([511, 512]) {
+        assert_eq!(pairs(&good(count)), most_pairs(count), "{count} records");
+    }
+    assert_eq!([0, 1, 2, 3, 4].map(|count| pairs(&good(count))), [0, 0, 1, 3, 6]);
+}
+
+#[test]
+fn the_first_repeat_is_the_last_pair_counted() {
+    for later in 2..=12 {
+        for first in 1..later {
+            // All pairs of the records before the later one, and of its own those
+            // up to the first; whatever is behind.
+            let want = (later - 1) * (later - 2) / 2 + first;
+            for count in later..=12 {
+                let checked = catalogue_check(&repeated(count, first, later));
+                assert_eq!(checked.answer, Err(refused(13, &[later, first])));
+                assert_eq!(checked.pairs, want, "{count} records, {later} repeats {first}");
+            }
+        }
+    }
+}
+
+#[test]
+fn the_most_pairs_and_refused() {
+    // The last record has the trace of the one before it: the last pair of all.
+    for count in (2..=20).chain([511, 512]) {
+        let checked = catalogue_check(&repeated(count, count - 1, count));
+        assert_eq!(checked.answer, Err(refused(13, &[count, count - 1])));
+        assert_eq!(checked.pairs, most_pairs(count));
+    }
+}
+
+#[test]
+fn the_repeat_visited_first_decides() {
+    let of = |traces: &[u8]| {
+        let mut bytes = Vec::new();
+        for trace in traces {
+            bytes.extend(record(1, 0x12, &[*trace], 0));
+        }
+        pairs(&bytes)
+    };
+    // Three or four alike.
+    assert_eq!(of(b"AAA"), 1);
+    assert_eq!(of(b"BAAA"), 3);
+    assert_eq!(of(b"ABAA"), 2);
+    assert_eq!(of(b"ABACA"), 2);
+    // Two traces repeated: by the later record, not by the first one.
+    assert_eq!(of(b"ABBA"), 3);
+    assert_eq!(of(b"ABAB"), 2);
+    assert_eq!(of(b"ABCBA"), 5);
+    assert_eq!(of(b"ABCCBA"), 6);
+    // Every way to give five records one of five traces each.
+    for number in 0..5usize.pow(5) {
+        let traces = [0, 1, 2, 3, 4].map(|place| b'A' + (number / 5usize.pow(place) % 5) as u8);
+        let visited = [(1, 0), (2, 0), (2, 1), (3, 0), (3, 1), (3, 2), (4, 0), (4, 1), (4, 2), (4, 3)];
+        let first = visited.iter().position(|(later, first)| traces[*later] == traces[*first]);
+        assert_eq!(of(&traces), first.map_or(10, |place| place + 1), "{traces:?}");
+    }
+}
+
+#[test]
+fn what_is_refused_before_compares_nothing() {
+    // Records 1 and 3 of five have one trace, and a fault stands before both,
+    // between them or behind them.
+    let twice = repeated(5, 1, 3);
+    assert_eq!(pairs(&twice), 2);
+    let faults: [(u8, usize, &[u8]); 8] = [
+        (10, 0, &[0x4D, 0x5A]),
+        (11, 2, &[0x00, 0x00]),
+        (11, 2, &[0x27, 0x10]),
+        (4, 4, &[0x00]),
+        (5, 19, &[0x1F]),
+        (20, 19, &[0x7F]),
+        (21, 5, &[0x20; 15]),
+        (12, 20, &[0x10]),
+    ];
+    for (number, at, with) in faults {
+        for place in [2, 4, 5] {
+            let mut bytes = twice.clone();
+            bytes[(place - 1) * RECORD_LENGTH + at..][..with.len()].copy_from_slice(with);
+            let checked = catalogue_check(&bytes);
+            assert_eq!(checked.answer.map_err(|refusal| (refusal.number, refusal.places[0])), Err((number, place)));
+            assert_eq!(checked.pairs, 0, "{number} in record {place}");
+        }
+        let mut first = [good(1), twice.clone()].concat();
+        first[at..at + with.len()].copy_from_slice(with);
+        assert_eq!(catalogue_check(&first).pairs, 0, "{number} in record 1");
+    }
+    // 9, however short or long.
+    for bytes in [&twice[..104], &[&twice[..], &[0x5A]].concat(), &repeated(513, 1, 2), &good(513), &[0x5A]] {
+        let checked = catalogue_check(bytes);
+        assert_eq!((checked.answer, checked.pairs), (Err(refused(9, &[])), 0));
+    }
+}
+
+#[test]
 fn lookup_gives_the_first_record_with_the_number() {
     let mut bytes = record(9, 0x13, b"A", 1);
     bytes.extend(record(0x1234, 0x12, b"B", 2));
@@ -290,9 +423,18 @@ fn every_input_is_answered() {
         word_reading(&bytes);
         let text = listing(&bytes);
         assert_eq!(text.last(), Some(&b'\n'));
-        match answer(&bytes) {
-            Ok(count) => assert_eq!(count * RECORD_LENGTH, bytes.len()),
-            Err(refusal) => assert_eq!(lookup(&bytes, 1), Err(refusal)),
+        let checked = catalogue_check(&bytes);
+        let most = most_pairs(bytes.len() / RECORD_LENGTH);
+        match checked.answer {
+            Ok(count) => {
+                assert_eq!(count * RECORD_LENGTH, bytes.len());
+                assert_eq!(checked.pairs, most);
+            }
+            Err(refusal) => {
+                assert_eq!(checked.pairs > 0, refusal.number == 13);
+                assert!(checked.pairs <= most);
+                assert_eq!(lookup(&bytes, 1), Err(refusal));
+            }
         }
     }
     start_byte(&[0xFF; 15]);
