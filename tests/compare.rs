@@ -257,6 +257,13 @@ fn catalogues(r: &mut Random, t: &mut Tally) {
     catalogue(r, t, &b, &mut met);
     b[512 * 21 - 2] = if b[512 * 21 - 2] == b'~' { b'}' } else { b'~' };
     catalogue(r, t, &b, &mut met);
+    // the first repeat at each pair of twelve records, and at the last pair of the longest catalogue
+    let ends = (1..12).flat_map(|later| (0..later).map(move |first| (12, first, later))).chain([(512, 510, 511)]);
+    for (n, first, later) in ends {
+        let mut b = good(r, n);
+        b.copy_within(first * 21 + 5..first * 21 + 20, later * 21 + 5);
+        catalogue(r, t, &b, &mut met);
+    }
     for (number, times) in met.iter().enumerate() {
         if matches!(number, 0 | 4 | 5 | 9..=14 | 20 | 21) && *times < 20 {
             println!("compare: answer {number} of the catalogue was met {times} times only");
