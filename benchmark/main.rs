@@ -489,6 +489,7 @@ fn catalogue(n: usize) -> Vec<u8> {
 }
 
 /// No trace is repeated, so that all n(n-1)/2 pairs are compared: the most that n records can have, which a pair's time turns into a bound on the check's.
+/// What a record itself costs is in a pair's time too, and is most of it where records are few.
 fn catalogues() {
     for n in [1usize, 2, 4, 8, 16, 32, 64, 128, 256, 512] {
         let b = catalogue(n);

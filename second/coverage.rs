@@ -868,7 +868,7 @@ fn up_to_a_repeat(later: usize, first: usize, pairs: usize, traces: &[&[u8]], no
             }
         }
     }
-    let mut behind = repeats.iter().map(|(of, _)| *of);
+    let mut all_of = repeats.iter().map(|(of, _)| *of);
     // The scan that takes the first records in their order, and for each the
     // later ones: it may end at another pair, and after another number of them.
     let first_by_first =
@@ -887,9 +887,9 @@ fn up_to_a_repeat(later: usize, first: usize, pairs: usize, traces: &[&[u8]], no
             (later == count && !last, "pairs.repeat-in-the-last-record"),
             (later < count, "pairs.repeat-with-records-behind"),
             (later > 99, "pairs.repeat-in-a-record-above-99"),
-            (behind.clone().filter(|of| *of == first).count() > 1, "pairs.repeat-with-a-third-alike"),
-            (behind.clone().any(|of| of < first), "pairs.repeat-inside-another"),
-            (behind.any(|of| of > first), "pairs.repeat-before-another"),
+            (all_of.clone().filter(|of| *of == first).count() > 1, "pairs.repeat-with-a-third-alike"),
+            (all_of.clone().any(|of| of < first), "pairs.repeat-inside-another"),
+            (all_of.any(|of| of > first), "pairs.repeat-before-another"),
             (pairs != first_by_first, "pairs.other-number-first-by-first"),
         ],
         note,
@@ -908,12 +908,12 @@ fn none_compared(refusal: &Refusal, traces: &[&[u8]], note: Note) {
     // A length is refused before any record is seen.
     let length = number == 9;
     let in_front = if length { &[] } else { &traces[..refusal.places[0] - 1] };
-    let behind_it = repeated(in_front);
+    let repeat_in_front = repeated(in_front);
     each(
         [
-            (in_front.len() > 1 && !behind_it, "pairs.0-behind-two-records"),
-            (behind_it, "pairs.0-behind-a-repeat"),
-            (!length && in_file && !behind_it, "pairs.0-before-a-repeat"),
+            (in_front.len() > 1 && !repeat_in_front, "pairs.0-behind-two-records"),
+            (repeat_in_front, "pairs.0-behind-a-repeat"),
+            (!length && in_file && !repeat_in_front, "pairs.0-before-a-repeat"),
             (length && (2..=512).contains(&traces.len()), "pairs.0-of-a-cut-file"),
             (length && traces.len() > 512, "pairs.0-of-more-than-512-records"),
             (length && in_file, "catalogue.refused-9-before-13"),

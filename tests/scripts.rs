@@ -1452,6 +1452,7 @@ impl Script {
                 match self.r.below(6) {
                     kind @ 0..=4 => self.fault(&mut bytes, at, kind),
                     _ => {
+                        // up to 20 bytes less or more
                         let length = bytes.len() + self.among(1, 41) - 21;
                         bytes.resize(length, 0x5A);
                     }
