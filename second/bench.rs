@@ -319,7 +319,7 @@ impl Bench {
             Command::Cat(ref bytes) => return catalogue(bytes, note),
             Command::Lookup(circuit, ref bytes) => return lookup(circuit, bytes, note),
             Command::List(ref bytes) => {
-                coverage::listed(second::catalogue_check(bytes).as_ref().err(), note);
+                coverage::listed(second::catalogue_check(bytes).answer.as_ref().err(), note);
                 // Characters from 20 to 7E only.
                 return String::from_utf8_lossy(&second::listing(bytes)).into_owned();
             }
@@ -463,11 +463,12 @@ impl Bench {
 }
 
 fn catalogue(bytes: &[u8], note: Note) -> String {
-    let answer = second::catalogue_check(bytes);
-    coverage::checked(&answer, bytes, note);
-    match answer {
-        Ok(count) => format!("cat ok {count}\n"),
-        Err(refusal) => format!("cat refused {refusal}\n"),
+    let checked = second::catalogue_check(bytes);
+    coverage::checked(&checked, bytes, note);
+    let pairs = checked.pairs;
+    match checked.answer {
+        Ok(count) => format!("cat ok {count} pairs={pairs}\n"),
+        Err(refusal) => format!("cat refused {refusal} pairs={pairs}\n"),
     }
 }
 

@@ -9,7 +9,7 @@ use super::rules::counts::{
     LAST_PLACE, MOST_ALARM_WORDS, MOST_ALIKE_WORDS, MOST_ENABLED_WORDS, MOST_EQUAL, MOST_INVALID_WORDS, MOST_WITHOUT,
 };
 use super::rules::{
-    adjustment, inverted, trace_fault, Answer, Expected, Given, Overhead, Place, Pointer, PointerReader, Refusal, Shape,
+    adjustment, inverted, trace_fault, Answer, Checked, Expected, Given, Overhead, Place, Pointer, PointerReader, Refusal, Shape,
     Sink, Taken, Watch, Word, AU4, RECORD_LENGTH,
 };
 use std::collections::{HashMap, HashSet};
@@ -124,9 +124,20 @@ pub const NAMES: &[&str] = &[
     "catalogue.refused-11-before-5", "catalogue.refused-11-before-20", "catalogue.refused-11-before-21",
     "catalogue.refused-4-before-5", "catalogue.refused-4-before-20", "catalogue.refused-4-before-21",
     "catalogue.refused-5-before-12", "catalogue.refused-20-before-12", "catalogue.refused-21-before-12",
-    "catalogue.refused-5-before-13", "catalogue.refused-20-before-13", "catalogue.refused-21-before-13",
+    "catalogue.refused-9-before-13", "catalogue.refused-10-before-13", "catalogue.refused-11-before-13",
+    "catalogue.refused-4-before-13", "catalogue.refused-5-before-13", "catalogue.refused-20-before-13",
+    "catalogue.refused-21-before-13", "catalogue.refused-12-before-13",
     "catalogue.refused-5-before-a-later-record", "catalogue.refused-20-before-a-later-record",
     "catalogue.refused-21-before-a-later-record",
+    "pairs.none-of-0-records", "pairs.none-of-1-record", "pairs.one-of-2-records", "pairs.one-of-2-records-alike",
+    "pairs.all-and-no-repeat", "pairs.130816-and-no-repeat", "pairs.130816-and-a-repeat-at-the-last", "pairs.above-65535-and-a-repeat",
+    "pairs.repeat-at-the-first", "pairs.repeat-at-the-last",
+    "pairs.repeat-of-record-1", "pairs.repeat-of-the-record-before", "pairs.repeat-of-a-record-between",
+    "pairs.repeat-in-the-last-record", "pairs.repeat-with-records-behind", "pairs.repeat-in-a-record-above-99",
+    "pairs.repeat-with-a-third-alike", "pairs.repeat-inside-another", "pairs.repeat-before-another",
+    "pairs.other-number-first-by-first",
+    "pairs.0-behind-two-records", "pairs.0-behind-a-repeat", "pairs.0-before-a-repeat",
+    "pairs.0-of-a-cut-file", "pairs.0-of-more-than-512-records",
     "lookup.found", "lookup.refused-14", "lookup.refused-5", "lookup.refused-20", "lookup.refused-21",
     "lookup.catalogue-refused",
     "list.listed", "list.refused-5", "list.refused-20", "list.refused-21", "list.refused",
@@ -762,8 +773,11 @@ pub fn payload_asked(place: Option<Place>, ais: bool, note: Note) {
     }
 }
 
-/// The check of a catalogue, and the faults that its refusal came before.
-pub fn checked(answer: &Result<usize, Refusal>, bytes: &[u8], note: Note) {
+/// The check of a catalogue, the pairs that it compared, and the faults that its
+/// refusal came before.
+pub fn checked(checked: &Checked, bytes: &[u8], note: Note) {
+    let answer = &checked.answer;
+    compared(checked, bytes, note);
     note(match answer {
         Ok(0) => "catalogue.none",
         Ok(512) => "catalogue.512",
@@ -785,8 +799,6 @@ pub fn checked(answer: &Result<usize, Refusal>, bytes: &[u8], note: Note) {
         return;
     };
     let records: Vec<&[u8]> = bytes.chunks(RECORD_LENGTH).collect();
-    let mut traces = HashSet::new();
-    let repeated = records.iter().any(|record| !traces.insert(&record[5..20]));
     let (this, later) = (records[places[0] - 1], &records[places[0]..]);
     let mut trace = [0; 15];
     trace.copy_from_slice(&this[5..20]);
@@ -813,9 +825,6 @@ pub fn checked(answer: &Result<usize, Refusal>, bytes: &[u8], note: Note) {
             (number == 5 && flags_wrong, "catalogue.refused-5-before-12"),
             (number == 20 && flags_wrong, "catalogue.refused-20-before-12"),
             (number == 21 && flags_wrong, "catalogue.refused-21-before-12"),
-            (number == 5 && repeated, "catalogue.refused-5-before-13"),
-            (number == 20 && repeated, "catalogue.refused-20-before-13"),
-            (number == 21 && repeated, "catalogue.refused-21-before-13"),
             (number == 5 && later_wrong, "catalogue.refused-5-before-a-later-record"),
             (number == 20 && later_wrong, "catalogue.refused-20-before-a-later-record"),
             (number == 21 && later_wrong, "catalogue.refused-21-before-a-later-record"),
@@ -823,6 +832,101 @@ pub fn checked(answer: &Result<usize, Refusal>, bytes: &[u8], note: Note) {
         note,
     );
     refused_trace(number, &trace, note);
+}
+
+/// The pairs of traces that a check compared: all, up to the first repeat, or
+/// none.
+fn compared(checked: &Checked, bytes: &[u8], note: Note) {
+    // Those that are whole; a file that is refused by its length may have more.
+    let traces: Vec<&[u8]> = bytes.chunks_exact(RECORD_LENGTH).map(|record| &record[5..20]).collect();
+    match &checked.answer {
+        Ok(count) => note(match (count, checked.pairs) {
+            (0, _) => "pairs.none-of-0-records",
+            (1, _) => "pairs.none-of-1-record",
+            (2, _) => "pairs.one-of-2-records",
+            (_, 130_816) => "pairs.130816-and-no-repeat",
+            _ => "pairs.all-and-no-repeat",
+        }),
+        Err(Refusal { number: 13, places }) => up_to_a_repeat(places[0], places[1], checked.pairs, &traces, note),
+        Err(refusal) => none_compared(refusal, &traces, note),
+    }
+}
+
+/// The pairs up to that of these two records, counted from 1: where it stands
+/// among all, and what more is repeated behind it.
+fn up_to_a_repeat(later: usize, first: usize, pairs: usize, traces: &[&[u8]], note: Note) {
+    let count = traces.len();
+    let most = count * (count - 1) / 2;
+    // Each repeat, the first record that has its trace before the later one.
+    let mut firsts = HashMap::new();
+    let mut repeats = Vec::new();
+    for (place, trace) in (1..).zip(traces) {
+        match firsts.get(trace) {
+            Some(of) => repeats.push((*of, place)),
+            None => {
+                firsts.insert(trace, place);
+            }
+        }
+    }
+    let mut all_of = repeats.iter().map(|(of, _)| *of);
+    // The scan that takes the first records in their order, and for each the
+    // later ones: it may end at another pair, and after another number of them.
+    let first_by_first =
+        repeats.iter().min().map_or(most, |(of, place)| (1..*of).map(|before| count - before).sum::<usize>() + place - of);
+    let last = pairs == most;
+    each(
+        [
+            (count == 2, "pairs.one-of-2-records-alike"),
+            (pairs == 130_816, "pairs.130816-and-a-repeat-at-the-last"),
+            (pairs > 65_535 && !last, "pairs.above-65535-and-a-repeat"),
+            (pairs == 1 && !last, "pairs.repeat-at-the-first"),
+            (pairs > 1 && last, "pairs.repeat-at-the-last"),
+            (first == 1 && later > 2, "pairs.repeat-of-record-1"),
+            (first > 1 && first == later - 1 && !last, "pairs.repeat-of-the-record-before"),
+            (first > 1 && first < later - 1, "pairs.repeat-of-a-record-between"),
+            (later == count && !last, "pairs.repeat-in-the-last-record"),
+            (later < count, "pairs.repeat-with-records-behind"),
+            (later > 99, "pairs.repeat-in-a-record-above-99"),
+            (all_of.clone().filter(|of| *of == first).count() > 1, "pairs.repeat-with-a-third-alike"),
+            (all_of.clone().any(|of| of < first), "pairs.repeat-inside-another"),
+            (all_of.any(|of| of > first), "pairs.repeat-before-another"),
+            (pairs != first_by_first, "pairs.other-number-first-by-first"),
+        ],
+        note,
+    );
+}
+
+/// No pair: whether records stand in front of what was refused that could have
+/// been compared, and whether there is a repeat too.
+fn none_compared(refusal: &Refusal, traces: &[&[u8]], note: Note) {
+    let number = refusal.number;
+    let repeated = |traces: &[&[u8]]| {
+        let mut met = HashSet::new();
+        traces.iter().any(|trace| !met.insert(*trace))
+    };
+    let in_file = repeated(traces);
+    // A length is refused before any record is seen.
+    let length = number == 9;
+    let in_front = if length { &[] } else { &traces[..refusal.places[0] - 1] };
+    let repeat_in_front = repeated(in_front);
+    each(
+        [
+            (in_front.len() > 1 && !repeat_in_front, "pairs.0-behind-two-records"),
+            (repeat_in_front, "pairs.0-behind-a-repeat"),
+            (!length && in_file && !repeat_in_front, "pairs.0-before-a-repeat"),
+            (length && (2..=512).contains(&traces.len()), "pairs.0-of-a-cut-file"),
+            (length && traces.len() > 512, "pairs.0-of-more-than-512-records"),
+            (length && in_file, "catalogue.refused-9-before-13"),
+            (number == 10 && in_file, "catalogue.refused-10-before-13"),
+            (number == 11 && in_file, "catalogue.refused-11-before-13"),
+            (number == 4 && in_file, "catalogue.refused-4-before-13"),
+            (number == 5 && in_file, "catalogue.refused-5-before-13"),
+            (number == 20 && in_file, "catalogue.refused-20-before-13"),
+            (number == 21 && in_file, "catalogue.refused-21-before-13"),
+            (number == 12 && in_file, "catalogue.refused-12-before-13"),
+        ],
+        note,
+    );
 }
 
 /// Whether a record has a fault by itself: of its mark, number, label, trace or

@@ -3,11 +3,11 @@
 //! source writes, the container source and the unit source, the payload call,
 //! the sink, and the circuit catalogue with its lookup and listing.
 //!
-//! Written from the rules paper ("01") alone, with the numbers of TU-3 and the
-//! three refusals of a trace from the requests for them ("02"); only two values
-//! in the tests, said there to be published, come from elsewhere. The rules stand
-//! in rules/, which of their cases were met is told by coverage.rs, and the tests
-//! stand in tests/.
+//! Written from the rules paper ("01") alone, with the numbers of TU-3, the three
+//! refusals of a trace and the count of compared pairs from the requests for them
+//! ("02"); only two values in the tests, said there to be published, come from
+//! elsewhere. The rules stand in rules/, which of their cases were met is told by
+//! coverage.rs, and the tests stand in tests/.
 
 // A program that takes this file as a module need not use all of it.
 #![allow(dead_code)]

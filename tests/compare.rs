@@ -191,22 +191,22 @@ fn fault(r: &mut Random, b: &mut Vec<u8>) {
     }
 }
 
-/// The probe's number for an answer of the second program.
-fn packed(answer: &Result<usize, second::Refusal>) -> u64 {
-    match answer {
-        Ok(n) => *n as u64,
-        Err(x) => {
-            let place = |k: usize| x.places.get(k).copied().unwrap_or(0) as u64;
-            (u64::from(x.number) << 32) + (place(0) << 16) + place(1)
-        }
-    }
+/// The probe's number for a refusal of the second program.
+fn packed(x: &second::Refusal) -> u64 {
+    let place = |k: usize| x.places.get(k).copied().unwrap_or(0) as u64;
+    (u64::from(x.number) << 32) + (place(0) << 16) + place(1)
+}
+
+/// The probe's number for what the second program's check answers, the pairs compared above the rest.
+fn packed_check(checked: &second::Checked) -> u64 {
+    ((checked.pairs as u64) << 40) + checked.answer.as_ref().map_or_else(packed, |n| *n as u64)
 }
 
 fn catalogue(r: &mut Random, t: &mut Tally, b: &[u8], met: &mut [u64; 22]) {
-    let answer = second::catalogue_check(b);
-    t.same("catalogue check", &|| hex(b), packed(&answer), proved::check(b));
+    let checked = second::catalogue_check(b);
+    t.same("catalogue check", &|| hex(b), packed_check(&checked), proved::check(b));
     t.same("listing", &|| hex(b), (second::listing(b), true), proved::list(b));
-    met[answer.as_ref().map_or_else(|x| x.number as usize, |_| 0)] += 1;
+    met[checked.answer.as_ref().map_or_else(|x| x.number as usize, |_| 0)] += 1;
     let n = b.len() / 21;
     for round in 0..4 {
         let number = match round {
@@ -221,7 +221,7 @@ fn catalogue(r: &mut Random, t: &mut Tally, b: &[u8], met: &mut [u64; 22]) {
             Ok(e) => (u64::from(e.label) * 256 + u64::from(e.flags), e.trace),
             Err(x) => {
                 met[x.number as usize] += u64::from(x.number == 14);
-                (packed(&Err(x)), [0; 15])
+                (packed(&x), [0; 15])
             }
         };
         t.same("lookup", &|| format!("{number} in {}", hex(b)), want, proved::lookup(b, number));
@@ -257,6 +257,13 @@ fn catalogues(r: &mut Random, t: &mut Tally) {
     catalogue(r, t, &b, &mut met);
     b[512 * 21 - 2] = if b[512 * 21 - 2] == b'~' { b'}' } else { b'~' };
     catalogue(r, t, &b, &mut met);
+    // the first repeat at each pair of twelve records, and at the last pair of the longest catalogue
+    let ends = (1..12).flat_map(|later| (0..later).map(move |first| (12, first, later))).chain([(512, 510, 511)]);
+    for (n, first, later) in ends {
+        let mut b = good(r, n);
+        b.copy_within(first * 21 + 5..first * 21 + 20, later * 21 + 5);
+        catalogue(r, t, &b, &mut met);
+    }
     for (number, times) in met.iter().enumerate() {
         if matches!(number, 0 | 4 | 5 | 9..=14 | 20 | 21) && *times < 20 {
             println!("compare: answer {number} of the catalogue was met {times} times only");

@@ -15,6 +15,7 @@ pub mod c {
         pub fn probe_plain_word(value: u16) -> u16;
         pub fn probe_adjusting_word(places: u16, value: u16) -> u16;
         pub fn probe_inverted(places: u16, word: u16, offset: u16) -> u32;
+        /// pairs compared * 2^40 + records; of a refused one pairs * 2^40 + refusal number * 2^32 + place * 2^16 + second place
         pub fn probe_check(bytes: *const u8, length: usize) -> u64;
         pub fn probe_list(bytes: *const u8, length: usize, text: *mut [u8; 15898]) -> usize;
         pub fn probe_lookup(bytes: *const u8, length: usize, number: u32, trace: *mut [u8; 15]) -> u64;

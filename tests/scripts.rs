@@ -1419,6 +1419,66 @@ impl Script {
         self.ask(&bytes);
     }
 
+    /// A trace once more: the later record gets that of the first, both counted
+    /// from 1.
+    fn repeat(bytes: &mut [u8], first: usize, later: usize) {
+        let at = |place: usize| 21 * (place - 1) + 5;
+        bytes.copy_within(at(first)..at(first) + 15, at(later));
+    }
+
+    /// Catalogues in which a trace is repeated, and often that one or another once
+    /// more behind it; some with a fault besides, so that nothing is compared.
+    fn repeats(&mut self) {
+        for _ in 0..4 {
+            let n = self.among(2, 8);
+            let mut bytes = self.records(n);
+            let (first, later) = match self.r.below(6) {
+                0 => (1, 2),
+                1 => (n - 1, n),
+                _ => {
+                    let later = self.among(2, n);
+                    (self.among(1, later - 1), later)
+                }
+            };
+            Self::repeat(&mut bytes, first, later);
+            if later < n && self.chance(2) {
+                let behind = self.among(later + 1, n);
+                let before = if first > 1 && self.chance(2) { first } else { behind };
+                let of = self.among(1, before - 1);
+                Self::repeat(&mut bytes, of, behind);
+            }
+            if self.chance(3) {
+                let at = 21 * self.r.below(n);
+                match self.r.below(6) {
+                    kind @ 0..=4 => self.fault(&mut bytes, at, kind),
+                    _ => {
+                        // up to 20 bytes less or more
+                        let length = bytes.len() + self.among(1, 41) - 21;
+                        bytes.resize(length, 0x5A);
+                    }
+                }
+            }
+            self.check(&bytes);
+        }
+    }
+
+    /// A long catalogue with a repeat in this record or one of those behind it.
+    fn far_repeat(&mut self, from: usize) {
+        let n = self.among(from + 1, from + 30);
+        let later = self.among(from, n);
+        let first = self.among(1, later - 1);
+        let mut bytes = self.records(n);
+        Self::repeat(&mut bytes, first, later);
+        self.check(&bytes);
+    }
+
+    /// A catalogue of n records with a repeat at its last pair.
+    fn last_repeat(&mut self, n: usize) {
+        let mut bytes = self.records(n);
+        Self::repeat(&mut bytes, n - 1, n);
+        self.check(&bytes);
+    }
+
     /// Catalogues with a wrong trace and often a fault more: in its record, in a
     /// later one, or a trace that two records have.
     fn listed_traces(&mut self) {
@@ -1522,11 +1582,20 @@ impl Script {
         self.ask(&bytes);
     }
 
+    /// The bytes as they stand behind a command's name.
+    fn behind(bytes: &[u8]) -> String {
+        if bytes.is_empty() { String::new() } else { format!(" {}", hex(bytes)) }
+    }
+
+    /// The check of these bytes alone.
+    fn check(&mut self, bytes: &[u8]) {
+        self.say(&format!("cat{}", Self::behind(bytes)));
+    }
+
     /// The check of these bytes, and the lookup and the listing of some.
     fn ask(&mut self, bytes: &[u8]) {
-        let text = hex(bytes);
-        let behind = if text.is_empty() { String::new() } else { format!(" {text}") };
-        self.say(&format!("cat{behind}"));
+        let behind = Self::behind(bytes);
+        self.check(bytes);
         if bytes.len() > 40 * 21 && self.r.below(3) > 0 {
             return;
         }
@@ -1580,7 +1649,7 @@ const EPISODES: [fn(&mut Script); 34] = [
 ];
 
 /// Those that use few units or none.
-const BETWEEN: [fn(&mut Script); 13] = [
+const BETWEEN: [fn(&mut Script); 14] = [
     Script::odd,
     Script::odd,
     Script::odd,
@@ -1593,6 +1662,7 @@ const BETWEEN: [fn(&mut Script); 13] = [
     Script::catalogue,
     Script::listed_traces,
     Script::listed_traces,
+    Script::repeats,
     Script::payload,
 ];
 
@@ -1659,14 +1729,19 @@ pub fn script(seed: u64, units: usize) -> Vec<u8> {
     if seed % 4 == 2 {
         s.say("run 66");
     }
-    // The longest catalogue, whole; and one with a wrong character behind its
-    // first hundred records.
-    match seed % 4 {
+    // The longest catalogue, whole or with a repeat at its last pair, or one more
+    // record; and long ones with a wrong character behind the first hundred
+    // records, or with a repeat behind these or behind 65,535 pairs.
+    match seed % 12 {
         1 => s.catalogue_with(512, 0),
-        3 => {
+        5 => s.last_repeat(512),
+        9 => s.last_repeat(513),
+        3 | 7 | 11 => {
             s.far_trace();
             s.far_trace();
         }
+        0 => s.far_repeat(364),
+        4 | 8 => s.far_repeat(100),
         _ => {}
     }
     // Long lines are large, so they are few. A comment that is too long is no

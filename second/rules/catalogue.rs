@@ -69,16 +69,25 @@ fn record_fault(mark: [u8; 2], record: &Record) -> Option<Refusal> {
     None
 }
 
-/// All records of a good catalogue in their order, or its refusal: "9, then
-/// record by record 10, 11, 4, 5, 12 with the record's place from 1, then 13".
-fn records(bytes: &[u8]) -> Result<Vec<Record>, Refusal> {
+/// What the check of a catalogue answers: the number of records of a good one
+/// or its refusal, and "how many pairs of traces it compared".
+#[derive(Debug, Clone, PartialEq, Eq)]
+pub struct Checked {
+    pub answer: Result<usize, Refusal>,
+    pub pairs: usize,
+}
+
+/// All records of a file in their order, or the refusal of its length or of one
+/// record by itself: "9, then record by record 10, 11, 4, 5, 12 with the record's
+/// place from 1".
+fn listed(bytes: &[u8]) -> Result<Vec<Record>, Refusal> {
     // 9: "catalogue length no multiple of 21, or above 10,752"
     if bytes.len() % RECORD_LENGTH != 0 || bytes.len() > LONGEST_CATALOGUE {
         return Err(Refusal::of(9));
     }
 
     // "record by record"
-    let mut good = Vec::new();
+    let mut all = Vec::new();
     for (index, chunk) in bytes.chunks_exact(RECORD_LENGTH).enumerate() {
         let mut record_bytes = [0; RECORD_LENGTH];
         record_bytes.copy_from_slice(chunk);
@@ -86,29 +95,60 @@ fn records(bytes: &[u8]) -> Result<Vec<Record>, Refusal> {
         if let Some(refusal) = record_fault(mark, &record) {
             return Err(refusal.in_record(index + 1));
         }
-        good.push(record);
+        all.push(record);
     }
+    // "An empty file is a good catalogue of none."
+    Ok(all)
+}
 
-    // 13: "names the earliest later record that repeats a trace, with the
-    // first record that has it". All 15 characters count, spaces too.
-    for later in 0..good.len() {
+/// 13: "names the earliest later record that repeats a trace, with the first
+/// record that has it". All 15 characters count, spaces too. And the pairs that
+/// were compared, "later record by later record, stopping at the first repeat",
+/// which is one of them.
+fn repeat(all: &[Record]) -> (Option<Refusal>, usize) {
+    let mut pairs = 0;
+    for later in 0..all.len() {
         for first in 0..later {
-            if good[first].trace == good[later].trace {
-                return Err(Refusal {
+            pairs += 1;
+            if all[first].trace == all[later].trace {
+                let refusal = Refusal {
                     number: 13,
                     places: vec![later + 1, first + 1],
-                });
+                };
+                return (Some(refusal), pairs);
             }
         }
     }
-
-    // "An empty file is a good catalogue of none."
-    Ok(good)
+    (None, pairs)
 }
 
-/// The number of records of a good catalogue, or its refusal.
-pub fn catalogue_check(bytes: &[u8]) -> Result<usize, Refusal> {
-    records(bytes).map(|good| good.len())
+/// All records of a good catalogue in their order, or its refusal: those of
+/// `listed`, "then 13".
+fn records(bytes: &[u8]) -> Result<Vec<Record>, Refusal> {
+    let all = listed(bytes)?;
+    match repeat(&all) {
+        (Some(refusal), _) => Err(refusal),
+        (None, _) => Ok(all),
+    }
+}
+
+/// The number of records of a good catalogue, or its refusal; and the pairs
+/// compared.
+pub fn catalogue_check(bytes: &[u8]) -> Checked {
+    match listed(bytes) {
+        // "A catalogue refused before that reports 0."
+        Err(refusal) => Checked {
+            answer: Err(refusal),
+            pairs: 0,
+        },
+        Ok(all) => {
+            let (refused, pairs) = repeat(&all);
+            Checked {
+                answer: refused.map_or(Ok(all.len()), Err),
+                pairs,
+            }
+        }
+    }
 }
 
 /// "Lookup gives the first record with the number." "Lookup checks the

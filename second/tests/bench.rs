@@ -248,7 +248,7 @@ fn lines_not_understood() {
     assert_eq!(ran("len 0\nxor 0 00\nshow\n"), "? 2\nline \n");
     assert_eq!(ran("len 4\nword 9abC\nxor 003 fF\n show # now\n"), "line 9A000043\n");
     assert_eq!(ran("parity\nparity 0f01\ncheck\nread\nread 6800\n"), "parity 00\nparity 0E\ncheck 0\nread 0\nread 6144\n");
-    assert_eq!(ran("cat\nlist\nlookup 7\n"), "cat ok 0\ncircuit label trace flags\nlookup refused 14\n");
+    assert_eq!(ran("cat\nlist\nlookup 7\n"), "cat ok 0 pairs=0\ncircuit label trace flags\nlookup refused 14\n");
     assert_eq!(ran("lens 000004096 0\nsink\nfresh\nsink\n").lines().next(), Some("refused 3"));
 }
 
@@ -315,9 +315,41 @@ fn catalogues_name_the_record_and_the_character() {
         (&spaces, "21 3"),
     ] {
         let bytes = format!("{good}{other}{}{}", record(3, trace), record(4, &spaces));
-        let printed = format!("cat refused {want}\nlookup refused {want}\nlookup refused {want}\n{want}\n");
+        let printed = format!("cat refused {want} pairs=0\nlookup refused {want}\nlookup refused {want}\n{want}\n");
         assert_eq!(ran(format!("cat {bytes}\nlookup 1 {bytes}\nlookup 9 {bytes}\nlist {bytes}\n")), printed);
     }
+}
+
+#[test]
+fn the_check_of_a_catalogue_prints_its_pairs() {
+    let record = |circuit: usize, trace: usize| format!("5A4D{circuit:04X}124C494E4520{}0F", hex(format!("{trace:010}").as_bytes()));
+    let of = |traces: &[usize]| traces.iter().enumerate().map(|(k, trace)| record(k + 1, *trace)).collect::<String>();
+    let all: Vec<usize> = (1..=512).collect();
+    for (bytes, want) in [
+        (String::new(), "ok 0 pairs=0"),
+        (of(&[1]), "ok 1 pairs=0"),
+        (of(&[1, 2]), "ok 2 pairs=1"),
+        (of(&[1, 2, 3]), "ok 3 pairs=3"),
+        (of(&all), "ok 512 pairs=130816"),
+        (of(&[1, 1]), "refused 13 2 1 pairs=1"),
+        (of(&[1, 2, 1]), "refused 13 3 1 pairs=2"),
+        (of(&[1, 2, 2, 1]), "refused 13 3 2 pairs=3"),
+        (of(&[&all[..511], &[511]].concat()), "refused 13 512 511 pairs=130816"),
+        (of(&[1, 1])[..82].to_string(), "refused 9 pairs=0"),
+        (of(&[1, 1]).replacen("5A4D", "5A4E", 1), "refused 10 1 pairs=0"),
+        (of(&[1, 1]) + &record(0, 1), "refused 11 3 pairs=0"),
+        (of(&[1, 1]) + &record(3, 2).replace("124C", "1219"), "refused 5 3 1 pairs=0"),
+    ] {
+        assert_eq!(ran(format!("cat {bytes}")), format!("cat {want}\n"));
+    }
+    // The lookup and the listing print none.
+    let twice = of(&[1, 2, 1]);
+    assert_eq!(ran(format!("lookup 1 {twice}\nlist {twice}\n")), "lookup refused 13 3 1\n13 3 1\n");
+    let good = of(&[7]);
+    assert_eq!(
+        ran(format!("lookup 1 {good}\nlist {good}\n")),
+        "found 12 4C494E452030303030303030303037 15\ncircuit label trace flags\n1 12 [LINE 0000000007] 15\n"
+    );
 }
 
 #[test]

@@ -25,6 +25,30 @@ fn good(count: usize) -> Vec<u8> {
     bytes
 }
 
+/// The same, but the record at the second place has the trace of the one at the
+/// first, both counted from 1.
+fn repeated(count: usize, first: usize, later: usize) -> Vec<u8> {
+    let mut bytes = good(count);
+    let at = |place: usize| (place - 1) * RECORD_LENGTH + 5;
+    bytes.copy_within(at(first)..at(first) + 15, at(later));
+    bytes
+}
+
+/// The check's answer without its count.
+fn answer(bytes: &[u8]) -> Result<usize, Refusal> {
+    catalogue_check(bytes).answer
+}
+
+/// Its count alone.
+fn pairs(bytes: &[u8]) -> usize {
+    catalogue_check(bytes).pairs
+}
+
+/// "at most n(n-1)/2 for n records"
+fn most_pairs(count: usize) -> usize {
+    count * count.saturating_sub(1) / 2
+}
+
 #[test]
 fn the_example_of_the_listing() {
     let mut bytes = vec![0x5A, 0x4D, 0x00, 0x07, 0x12];
@@ -35,7 +59,7 @@ fn the_example_of_the_listing() {
         listing(&bytes),
         b"circuit label trace flags\n7 12 [03E5           ] 15\n"
     );
-    assert_eq!(catalogue_check(&bytes), Ok(1));
+    assert_eq!(answer(&bytes), Ok(1));
     assert_eq!(
         lookup(&bytes, 7),
         Ok(Record {
@@ -49,7 +73,7 @@ fn the_example_of_the_listing() {
 
 #[test]
 fn an_empty_file_is_a_good_catalogue_of_none() {
-    assert_eq!(catalogue_check(&[]), Ok(0));
+    assert_eq!(answer(&[]), Ok(0));
     assert_eq!(listing(&[]), b"circuit label trace flags\n");
     assert_eq!(lookup(&[], 1), Err(refused(14, &[])));
 }
@@ -57,30 +81,30 @@ fn an_empty_file_is_a_good_catalogue_of_none() {
 #[test]
 fn lengths() {
     assert_eq!(LONGEST_CATALOGUE, 10_752);
-    assert_eq!(catalogue_check(&good(512)), Ok(512));
-    assert_eq!(catalogue_check(&good(513)), Err(refused(9, &[])));
+    assert_eq!(answer(&good(512)), Ok(512));
+    assert_eq!(answer(&good(513)), Err(refused(9, &[])));
     for length in 1..=2 * RECORD_LENGTH {
         let bytes = &good(2)[..length];
         if length % RECORD_LENGTH == 0 {
-            assert_eq!(catalogue_check(bytes), Ok(length / RECORD_LENGTH));
+            assert_eq!(answer(bytes), Ok(length / RECORD_LENGTH));
         } else {
-            assert_eq!(catalogue_check(bytes), Err(refused(9, &[])));
+            assert_eq!(answer(bytes), Err(refused(9, &[])));
         }
     }
 }
 
 #[test]
 fn length_comes_before_all_else() {
-    assert_eq!(catalogue_check(&[0x00; 22]), Err(refused(9, &[])));
+    assert_eq!(answer(&[0x00; 22]), Err(refused(9, &[])));
     assert_eq!(listing(&[0x00; 22]), b"9\n");
     assert_eq!(lookup(&[0x00; 22], 0), Err(refused(9, &[])));
-    assert_eq!(catalogue_check(&[0x00; 513 * 21]), Err(refused(9, &[])));
+    assert_eq!(answer(&[0x00; 513 * 21]), Err(refused(9, &[])));
 }
 
 #[test]
 fn bounds_of_each_field() {
     let one = |circuit, label, trace: &[u8], flags| {
-        catalogue_check(&record(circuit, label, trace, flags))
+        answer(&record(circuit, label, trace, flags))
     };
     assert_eq!(one(0, 0x12, b"A", 0), Err(refused(11, &[1])));
     assert_eq!(one(1, 0x12, b"A", 0), Ok(1));
@@ -106,7 +130,7 @@ fn the_record_comes_first_and_then_the_character() {
     for (trace, refusal) in refused_traces() {
         let bytes = [good(3), record(4, 0x12, &trace, 0x10), record(0, 0x00, &trace, 0)].concat();
         let places = [&[4], &refusal.places[..]].concat();
-        assert_eq!(catalogue_check(&bytes), Err(refused(refusal.number, &places)));
+        assert_eq!(answer(&bytes), Err(refused(refusal.number, &places)));
         assert_eq!(lookup(&bytes, 1), Err(refused(refusal.number, &places)));
     }
     let listed = |character: u8, place: usize| {
@@ -127,8 +151,8 @@ fn each_character_of_a_listed_trace() {
             let mut trace = *b"ABCDEFGHIJKLMNO";
             trace[place] = character;
             let bytes = [good(1), record(2, 0x12, &trace, 0)].concat();
-            let answer = refused_at(place, character).map_or(Ok(2), |refusal| Err(refusal.in_record(2)));
-            assert_eq!(catalogue_check(&bytes), answer);
+            let want = refused_at(place, character).map_or(Ok(2), |refusal| Err(refusal.in_record(2)));
+            assert_eq!(answer(&bytes), want);
         }
     }
 }
@@ -139,7 +163,7 @@ fn either_byte_of_the_mark_may_be_wrong() {
         for bit in 0..8 {
             let mut bytes = good(2);
             bytes[RECORD_LENGTH + place] ^= 1 << bit;
-            assert_eq!(catalogue_check(&bytes), Err(refused(10, &[2])));
+            assert_eq!(answer(&bytes), Err(refused(10, &[2])));
         }
     }
 }
@@ -156,27 +180,27 @@ fn faults_of_one_record_come_in_the_order_10_11_4_trace_12() {
     bytes.extend(record(3, 0x12, b"A", 0));
     let at = RECORD_LENGTH;
 
-    assert_eq!(catalogue_check(&bytes), Err(refused(10, &[2])));
+    assert_eq!(answer(&bytes), Err(refused(10, &[2])));
     assert_eq!(listing(&bytes), b"10 2\n");
     bytes[at] = 0x5A;
-    assert_eq!(catalogue_check(&bytes), Err(refused(10, &[2])));
+    assert_eq!(answer(&bytes), Err(refused(10, &[2])));
     bytes[at + 1] = 0x4D;
-    assert_eq!(catalogue_check(&bytes), Err(refused(11, &[2])));
+    assert_eq!(answer(&bytes), Err(refused(11, &[2])));
     bytes[at + 3] = 0x0F;
-    assert_eq!(catalogue_check(&bytes), Err(refused(4, &[2])));
+    assert_eq!(answer(&bytes), Err(refused(4, &[2])));
     bytes[at + 4] = 0xFE;
-    assert_eq!(catalogue_check(&bytes), Err(refused(20, &[2, 1])));
+    assert_eq!(answer(&bytes), Err(refused(20, &[2, 1])));
     bytes[at + 5..at + 7].copy_from_slice(&[0x7E, 0x1F]);
-    assert_eq!(catalogue_check(&bytes), Err(refused(5, &[2, 2])));
+    assert_eq!(answer(&bytes), Err(refused(5, &[2, 2])));
     bytes[at + 5..at + 20].fill(0x20);
-    assert_eq!(catalogue_check(&bytes), Err(refused(21, &[2])));
+    assert_eq!(answer(&bytes), Err(refused(21, &[2])));
     bytes[at + 5..at + 20].fill(0x7E);
-    assert_eq!(catalogue_check(&bytes), Err(refused(12, &[2])));
+    assert_eq!(answer(&bytes), Err(refused(12, &[2])));
     bytes[at + 20] = 0x0F;
-    assert_eq!(catalogue_check(&bytes), Err(refused(13, &[3, 1])));
+    assert_eq!(answer(&bytes), Err(refused(13, &[3, 1])));
     assert_eq!(listing(&bytes), b"13 3 1\n");
     bytes[2 * at + 5] = b'B';
-    assert_eq!(catalogue_check(&bytes), Ok(3));
+    assert_eq!(answer(&bytes), Ok(3));
 }
 
 #[test]
@@ -185,7 +209,7 @@ fn an_earlier_record_comes_before_a_later_one() {
     let mut bytes = good(3);
     bytes[RECORD_LENGTH + 20] = 0xFF;
     bytes[2 * RECORD_LENGTH] = 0x00;
-    assert_eq!(catalogue_check(&bytes), Err(refused(12, &[2])));
+    assert_eq!(answer(&bytes), Err(refused(12, &[2])));
 }
 
 #[test]
@@ -204,7 +228,7 @@ fn refusal_13_names_the_earliest_later_with_the_first() {
         for (index, trace) in traces.iter().enumerate() {
             bytes.extend(record(index as u16 + 1, 0x12, trace, 0));
         }
-        catalogue_check(&bytes)
+        answer(&bytes)
     };
     // 4 repeats 1, but 3 repeats 2 earlier.
     assert_eq!(of(&[b"A", b"B", b"B", b"A"]), Err(refused(13, &[3, 2])));
@@ -220,11 +244,125 @@ fn refusal_13_names_the_earliest_later_with_the_first() {
 }
 
 #[test]
+fn pairs_are_counted() {
+    let of = |bytes: &[u8]| {
+        let checked = catalogue_check(bytes);
+        (checked.answer, checked.pairs)
+    };
+    assert_eq!(of(&good(512)), (Ok(512), 130_816));
+    // A repeat of record 1 at record 2.
+    for count in [2, 3, 512] {
+        assert_eq!(of(&repeated(count, 1, 2)), (Err(refused(13, &[2, 1])), 1));
+    }
+    assert_eq!(of(&repeated(3, 1, 3)), (Err(refused(13, &[3, 1])), 2));
+    assert_eq!(of(&repeated(3, 2, 3)), (Err(refused(13, &[3, 2])), 3));
+    // More than 16 bits hold, and refused.
+    assert_eq!(of(&repeated(512, 1, 512)), (Err(refused(13, &[512, 1])), 130_306));
+}
+
+#[test]
+fn all_pairs_where_no_trace_is_repeated() {
+    for count in (0..=20).chain([511, 512]) {
+        assert_eq!(pairs(&good(count)), most_pairs(count), "{count} records");
+    }
+    assert_eq!([0, 1, 2, 3, 4].map(|count| pairs(&good(count))), [0, 0, 1, 3, 6]);
+}
+
+#[test]
+fn the_first_repeat_is_the_last_pair_counted() {
+    for later in 2..=12 {
+        for first in 1..later {
+            // All pairs of the records before the later one, and of its own those
+            // up to the first; whatever is behind.
+            let want = (later - 1) * (later - 2) / 2 + first;
+            for count in later..=12 {
+                let checked = catalogue_check(&repeated(count, first, later));
+                assert_eq!(checked.answer, Err(refused(13, &[later, first])));
+                assert_eq!(checked.pairs, want, "{count} records, {later} repeats {first}");
+            }
+        }
+    }
+}
+
+#[test]
+fn the_most_pairs_and_refused() {
+    // The last record has the trace of the one before it: the last pair of all.
+    for count in (2..=20).chain([511, 512]) {
+        let checked = catalogue_check(&repeated(count, count - 1, count));
+        assert_eq!(checked.answer, Err(refused(13, &[count, count - 1])));
+        assert_eq!(checked.pairs, most_pairs(count));
+    }
+}
+
+#[test]
+fn the_repeat_visited_first_decides() {
+    let of = |traces: &[u8]| {
+        let mut bytes = Vec::new();
+        for trace in traces {
+            bytes.extend(record(1, 0x12, &[*trace], 0));
+        }
+        pairs(&bytes)
+    };
+    // Three or four alike.
+    assert_eq!(of(b"AAA"), 1);
+    assert_eq!(of(b"BAAA"), 3);
+    assert_eq!(of(b"ABAA"), 2);
+    assert_eq!(of(b"ABACA"), 2);
+    // Two traces repeated: by the later record, not by the first one.
+    assert_eq!(of(b"ABBA"), 3);
+    assert_eq!(of(b"ABAB"), 2);
+    assert_eq!(of(b"ABCBA"), 5);
+    assert_eq!(of(b"ABCCBA"), 6);
+    // Every way to give five records one of five traces each.
+    for number in 0..5usize.pow(5) {
+        let traces = [0, 1, 2, 3, 4].map(|place| b'A' + (number / 5usize.pow(place) % 5) as u8);
+        let visited = [(1, 0), (2, 0), (2, 1), (3, 0), (3, 1), (3, 2), (4, 0), (4, 1), (4, 2), (4, 3)];
+        let first = visited.iter().position(|(later, first)| traces[*later] == traces[*first]);
+        assert_eq!(of(&traces), first.map_or(10, |place| place + 1), "{traces:?}");
+    }
+}
+
+#[test]
+fn what_is_refused_before_compares_nothing() {
+    // Records 1 and 3 of five have one trace, and a fault stands before both,
+    // between them or behind them.
+    let twice = repeated(5, 1, 3);
+    assert_eq!(pairs(&twice), 2);
+    let faults: [(u8, usize, &[u8]); 8] = [
+        (10, 0, &[0x4D, 0x5A]),
+        (11, 2, &[0x00, 0x00]),
+        (11, 2, &[0x27, 0x10]),
+        (4, 4, &[0x00]),
+        (5, 19, &[0x1F]),
+        (20, 19, &[0x7F]),
+        (21, 5, &[0x20; 15]),
+        (12, 20, &[0x10]),
+    ];
+    for (number, at, with) in faults {
+        for place in [2, 4, 5] {
+            let mut bytes = twice.clone();
+            bytes[(place - 1) * RECORD_LENGTH + at..][..with.len()].copy_from_slice(with);
+            let checked = catalogue_check(&bytes);
+            assert_eq!(checked.answer.map_err(|refusal| (refusal.number, refusal.places[0])), Err((number, place)));
+            assert_eq!(checked.pairs, 0, "{number} in record {place}");
+        }
+        let mut first = [good(1), twice.clone()].concat();
+        first[at..at + with.len()].copy_from_slice(with);
+        assert_eq!(catalogue_check(&first).pairs, 0, "{number} in record 1");
+    }
+    // 9, however short or long.
+    for bytes in [&twice[..104], &[&twice[..], &[0x5A]].concat(), &repeated(513, 1, 2), &good(513), &[0x5A]] {
+        let checked = catalogue_check(bytes);
+        assert_eq!((checked.answer, checked.pairs), (Err(refused(9, &[])), 0));
+    }
+}
+
+#[test]
 fn lookup_gives_the_first_record_with_the_number() {
     let mut bytes = record(9, 0x13, b"A", 1);
     bytes.extend(record(0x1234, 0x12, b"B", 2));
     bytes.extend(record(0x1234, 0x02, b"C", 3));
-    assert_eq!(catalogue_check(&bytes), Ok(3));
+    assert_eq!(answer(&bytes), Ok(3));
     assert_eq!(
         lookup(&bytes, 0x1234),
         Ok(Record {
@@ -285,9 +423,18 @@ fn every_input_is_answered() {
         word_reading(&bytes);
         let text = listing(&bytes);
         assert_eq!(text.last(), Some(&b'\n'));
-        match catalogue_check(&bytes) {
-            Ok(count) => assert_eq!(count * RECORD_LENGTH, bytes.len()),
-            Err(refusal) => assert_eq!(lookup(&bytes, 1), Err(refusal)),
+        let checked = catalogue_check(&bytes);
+        let most = most_pairs(bytes.len() / RECORD_LENGTH);
+        match checked.answer {
+            Ok(count) => {
+                assert_eq!(count * RECORD_LENGTH, bytes.len());
+                assert_eq!(checked.pairs, most);
+            }
+            Err(refusal) => {
+                assert_eq!(checked.pairs > 0, refusal.number == 13);
+                assert!(checked.pairs <= most);
+                assert_eq!(lookup(&bytes, 1), Err(refusal));
+            }
         }
     }
     start_byte(&[0xFF; 15]);
