@@ -9,8 +9,8 @@ the printed line; every refusal has the words of docs/REFUSALS.md and the places
 the script's own line or catalogue has there; every check of a catalogue has its records and the pairs of traces that were compared; every
 `? N` has its line; comments stand in their order. Each refusal that the bench can give is given by a script; 2 and 8, which it cannot give,
 are told from lines made up here. The bytes that the words name on the line are held to what damage to them does. docs/REFUSALS.md,
-docs/GLOSSARY.md and include/card.h must have the same words, docs/CARD.md the same orders, and the traces of docs/REFUSALS.md must be refused
-as it says. A desk must say what explain says. Last, spoiled words and spoiled lines must be found out by these checks.
+docs/GLOSSARY.md and include/card.h must have the same words, docs/CARD.md the same orders, the traces of docs/REFUSALS.md must be refused as
+it says, and what the pages print of a catalogue check must have its pairs. A desk must say what explain says. Last, spoiled words and spoiled lines must be found out by these checks.
 """
 
 import os
@@ -717,6 +717,18 @@ def look_at_traces(program, page, fault):
                 fault("REFUSALS.md", f"`{line.strip()}` prints {printed}, not refused {said}")
 
 
+def look_at_examples(name, page, fault):
+    """What a page says that `cat` prints: the pairs are those of n records without a repeat, of the repeat that is named, or none."""
+    examples = re.findall(r"`(cat (?:ok|refused) \d[^`]*)`", page)
+    for text in examples:
+        found = re.fullmatch(r"cat (?:ok (\d+)|refused (?:13 (\d+) (\d+)|\d+(?: \d+){0,2})) pairs=(\d+)", text)
+        records, later, first, pairs = (int(number or 0) for number in found.groups()) if found else (0, 0, 0, -1)
+        if pairs != (records * (records - 1) // 2 if records else (later - 1) * (later - 2) // 2 + first if later else 0):
+            fault(name, f"no bench prints `{text}`")
+    if not examples:
+        fault(name, "it does not say what `cat` prints")
+
+
 def look_at_rows(program, card, fault):
     """A unit with the word of each row of the card's pointer table is told as the table has it."""
     rows = re.findall(r"\| (P\d+) \| (\d+) \| ([0-9A-F]{4})[^|]* \| ([a-z ]+)[^|]* \| (\d+) \|", card)
@@ -1124,6 +1136,10 @@ def look_at_checks(program, pages, refusals, fault):
                            ("no answer", "`rx refused 5 15`", "refused")):
         trials += 1
         tried(name, lambda old=old, new=new: look_at_traces(program, page.replace(old, new), note))
+    for name, new in (("another number of pairs on a page", "13 3 1 pairs=3"), ("no pairs on a page", "13 3 1"), ("another record on a page", "13 3 2 pairs=2"), ("pairs before 13 on a page", "12 3 pairs=2"),
+                      ("other pairs of a good catalogue on a page", "13 3 1 pairs=2` and `cat ok 4 pairs=4")):
+        trials += 1
+        tried(name, lambda new=new: look_at_examples("spoiled", page.replace("13 3 1 pairs=2", new), note))
     return len(words) + len(lines) + seeded + trials + 13
 
 
@@ -1157,6 +1173,8 @@ def main():
                 fault(name, "other words with CR LF and a byte order mark")
     look_at_refusals(program, refusals, fault)
     look_at_traces(program, pages[0], fault)
+    look_at_examples("REFUSALS.md", pages[0], fault)
+    look_at_examples("BENCH.md", read("docs/BENCH.md").decode(), fault)
     look_at_rows(program, pages[3], fault)
     look_at_bytes(program, fault)
     for seed in range(4):
