@@ -6,11 +6,11 @@
 Every script under lessons and examples is played, and so are random lines. What was printed is read here once more, and each sentence is
 held to it: every unit has exactly one; its causes, defects, actions, containers, violations, offsets and whether it settled are those of
 the printed line; every refusal has the words of docs/REFUSALS.md and the places that were printed, and of a refused character the byte that
-the script's own line or catalogue has there; every `? N` has its line; comments stand in their order. Each refusal that the bench can give is
-given by a script; 2 and 8, which it cannot give, are told from lines made up here. The bytes that the words name on the line are held to what
-damage to them does. docs/REFUSALS.md, docs/GLOSSARY.md and include/card.h must have the same words, docs/CARD.md the same orders, and the
-traces of docs/REFUSALS.md must be refused as it says. A desk must say what explain says. Last, spoiled words and spoiled lines must be found
-out by these checks.
+the script's own line or catalogue has there; every check of a catalogue has its records and the pairs of traces that were compared; every
+`? N` has its line; comments stand in their order. Each refusal that the bench can give is given by a script; 2 and 8, which it cannot give,
+are told from lines made up here. The bytes that the words name on the line are held to what damage to them does. docs/REFUSALS.md,
+docs/GLOSSARY.md and include/card.h must have the same words, docs/CARD.md the same orders, the traces of docs/REFUSALS.md must be refused as
+it says, and what the pages print of a catalogue check must have its pairs. A desk must say what explain says. Last, spoiled words and spoiled lines must be found out by these checks.
 """
 
 import os
@@ -54,7 +54,7 @@ LONGEST_BRIEF = 200  # characters of one of them before it is wrapped
 SHOWN = 8  # faults of one thing
 
 failures = {}
-checked = {"units": 0, "sentences": 0, "refusals": 0, "strange": 0, "runs": 0}
+checked = {"units": 0, "sentences": 0, "refusals": 0, "catalogues": 0, "strange": 0, "runs": 0}
 
 
 def fault(what, text):
@@ -163,6 +163,9 @@ HEAD = re.compile(r"(units?) (\d+)(?: (and|to) (\d+))?(, the same line again|, o
 REFUSED = re.compile(r"(container|unit|tx|rx|payload|catalogue|lookup|listing|sink) refused (\d+)((?: in record \d+)?(?: at character \d+)?(?:, as in record \d+)?)"
                      r"(?:, (\d+) times)?: (.*)")
 CHARACTER = re.compile(r"\((?:circuit (\d+), )?character (\d+) of (the sent|the expected|its) trace(?: \"(.*)\")? is ([0-9A-F]{2})\b")
+GOOD_CATALOGUE = re.compile(r"cat: a good catalogue of (no|one|two|\d+) record(s?)(, as an empty file is)?(; .*)?")
+# How many pairs of traces were compared: at the end of a sentence, or of what a refusal says in parentheses.
+COMPARED = re.compile(r"; (no \w+ [a-z ]*|(\d+) pairs? [a-z ]*)(?=$|\)$|\)\. )")
 
 
 def number_of(word):
@@ -239,11 +242,36 @@ def sentence_faults(body, unit, before, many):
     return wrong
 
 
-def refusal_told(found):
-    """Of a sentence about a refusal: whose, number, places; and where a character is named its circuit, its place, whose trace, the trace as shown, the byte."""
+def pairs_told(text, brief):
+    """How many pairs of traces were compared, as a text has it; None where it has nothing of it, and the text where it is not said as it should."""
+    if not re.search(r"\bcompared\b|\bpairs?\b", text):
+        return None
+    found = COMPARED.search(text)
+    pairs = int(found[2] or 0) if found else 0
+    few = ("no pair compared", "1 pair compared") if brief else ("no trace was compared with another", "1 pair of traces was compared")
+    wanted = few[pairs] if pairs < 2 else f"{pairs} pairs compared" if brief else f"{pairs} pairs of traces were compared"
+    return pairs if found and found[1] == wanted and text.count("compared") == 1 else text
+
+
+def refusal_told(found, brief=False):
+    """Of a sentence about a refusal: whose, number, places; where a character is named its circuit, its place, whose trace, the trace as shown, the byte;
+    and the pairs of traces that were compared."""
     character = CHARACTER.search(found[5])
     named = (character[1] and int(character[1]), int(character[2]), character[3], character[4], int(character[5], 16)) if character else None
-    return found[1], int(found[2]), tuple(numbers_in(found[3])), named
+    return found[1], int(found[2]), tuple(numbers_in(found[3])), named, pairs_told(found[5], brief)
+
+
+def good_told(texts, brief=False):
+    """Of each sentence about a good catalogue: how many records it has, and how many pairs of traces were compared."""
+    for text in texts:
+        found = GOOD_CATALOGUE.fullmatch(text)
+        if found:
+            records = number_of(found[1])
+            # an empty file is said to be one, and of one record there is no s
+            well = bool(found[2]) == (records > 1) and bool(found[3]) == (records == 0)
+            yield (records, pairs_told(found[4] or "", brief)) if well else text
+        elif text.startswith("cat: "):
+            yield text
 
 
 def words_of_lines(data):
@@ -264,8 +292,8 @@ def refusals_printed(data, printed):
                 settings[name] = trace_of(words[2])
             if name in ("fresh", "fill", "lens", "word", "xor", "ones", "len") or name in settings and not refused_at_once(words) or not said:
                 continue
-            found = re.fullmatch(r"(?:(container|unit|tx|rx|payload|cat|lookup) )?refused (\d+)((?: \d+)*)", said[0])
-            listing = re.fullmatch(r"()(\d+)((?: \d+)*)", said[0]) if name == "list" else None
+            found = re.fullmatch(r"(?:(container|unit|tx|rx|payload|cat|lookup) )?refused (\d+)((?: \d+)*)(?: pairs=(\d+))?", said[0])
+            listing = re.fullmatch(r"()(\d+)((?: \d+)*)()", said[0]) if name == "list" else None
             catalogue = bytes.fromhex(words[-1]) if name in ("cat", "lookup", "list") and len(words) > 1 + (name == "lookup") else b""
             if found or listing:
                 yield refusal_key(name, found or listing, settings, catalogue)
@@ -284,7 +312,7 @@ def refusal_key(name, found, settings, catalogue):
         byte = trace[places[-1] - 1] if 1 <= places[-1] <= len(trace) else 0x20
         # the number says what the byte must be
         named = (circuit, places[-1], whose, None if call in settings else trace_shown(trace), byte) if byte < 0x20 and number == 5 or byte > 0x7E and number == 20 else "no such character"
-    return call, number, tuple(places), named
+    return call, number, tuple(places), named, int(found[4]) if found[4] else None
 
 
 def trace_shown(trace):
@@ -340,6 +368,11 @@ def look_at_run(name, data, printed, told, refusals, fault):
         if not any(REFUSED.fullmatch(text) and text.endswith(advice) for text in told):
             fault(name, f"nowhere the advice of refusal {number}")
     checked["refusals"] += sum(given.values())
+    # good catalogues, in order
+    good = [(int(found[1]), int(found[2])) for found in (re.fullmatch(r"cat ok (\d+) pairs=(\d+)", line) for line in printed) if found]
+    if list(good_told(told)) != good:
+        fault(name, f"good catalogues and their pairs: printed {good[:9]}, told {list(good_told(told))[:9]}")
+    checked["catalogues"] += len(good)
     # lines that were not understood
     skipped = [re.fullmatch(r"line (\d+) is not understood \(\? (\d+)\) and skipped, `(.*)`: (.+)", text, re.DOTALL) for text in told]
     skipped = [found for found in skipped if found]
@@ -414,10 +447,13 @@ def look_at_brief(name, printed, told, brief, fault):
                         if not any(found and int(found[2]) <= int(head[2]) <= int(found[4] or found[2]) and what in re.findall(other, found[6])
                                    for found in map(HEAD.fullmatch, opposite)):
                             fault(f"{name} in brief", f"only in one form: unit {head[2]}: {what}")
-    # each refusal with its places, and the byte of its character
-    whole, short = ({(*key[:3], key[3] and (key[3][1], key[3][4])) for key in map(refusal_told, filter(None, map(REFUSED.fullmatch, texts)))} for texts in (told, brief))
+    # each refusal with its places, the byte of its character, and its pairs; each good catalogue
+    whole, short = ({(*key[:3], key[3] and (key[3][1], key[3][4]), key[4]) for key in (refusal_told(found, texts is brief) for found in map(REFUSED.fullmatch, texts) if found)}
+                    for texts in (told, brief))
     if whole != short:
         fault(f"{name} in brief", f"refusals only in one form: {whole ^ short}")
+    if list(good_told(told)) != list(good_told(brief, True)):
+        fault(f"{name} in brief", f"good catalogues: {list(good_told(told))[:9]}, and in brief {list(good_told(brief, True))[:9]}")
     for number in {int(text[2:]) for text in printed if re.fullmatch(r"\? \d+", text)}:
         if not any(text.startswith(f"line {number} is not understood") for text in brief):
             fault(f"{name} in brief", f"line {number} is not named")
@@ -470,24 +506,55 @@ GIVEN = {
 }
 for number, data in BAD.items():
     places = f"{number}{PLACES[number]}"
-    GIVEN.setdefault(number, []).extend([(f"cat {data}\n", f"cat refused {places}"), (f"lookup 7 {data}\n", f"lookup refused {places}"), (f"list {data}\n", places)])
-# lines that no bench prints: a place too few or too many, or one that no character has
-NEVER = {
-    'rx 12 "" 0\n': ("rx refused 21 1", "rx refused 5", "rx refused 5 0", "rx refused 20 16", "rx refused 20 2 7", "rx refused 4 1"),
-    "sink\n": ("refused 5", "refused 20 3 1", "refused 21 15"),
-    f"cat {GOOD}\n": ("cat refused 5 1", "cat refused 20 1", "cat refused 21", "cat refused 21 1 1", "cat refused 20 1 16", "cat refused 4", "cat refused 13 2", "cat refused 9 1"),
-    f"lookup 7 {GOOD}\n": ("lookup refused 14 1", "lookup refused 5 3"),
-    f"list {GOOD}\n": ("20 1", "21", "5 1 0", "13 2"),
+    pairs = f"pairs={2 if number == 13 else 0}"
+    GIVEN.setdefault(number, []).extend([(f"cat {data}\n", f"cat refused {places} {pairs}"), (f"lookup 7 {data}\n", f"lookup refused {places}"), (f"list {data}\n", places)])
+
+
+def named_by(*traces):
+    """A catalogue of records with the traces of these numbers, in hex; the k-th is of circuit k."""
+    return "".join(record(circuit=f"{k:04X}", trace=f"NORD-SUED {number}".encode().ljust(15).hex()) for k, number in enumerate(traces, 1))
+
+
+# catalogues: what is printed, and what must be said. Later record by later record, each with those before it, up to the first repeat
+ALIKE = "two records have the same trace"
+COUNTED = {
+    "": ("cat ok 0 pairs=0", "cat: a good catalogue of no record, as an empty file is; no trace was compared with another"),
+    named_by(1): ("cat ok 1 pairs=0", "cat: a good catalogue of one record; no trace was compared with another"),
+    named_by(1, 2): ("cat ok 2 pairs=1", "cat: a good catalogue of two records; 1 pair of traces was compared"),
+    named_by(1, 2, 3): ("cat ok 3 pairs=3", "cat: a good catalogue of 3 records; 3 pairs of traces were compared"),
+    named_by(1, 2, 3, 4): ("cat ok 4 pairs=6", "cat: a good catalogue of 4 records; 6 pairs of traces were compared"),
+    named_by(1, 1, 3, 4): ("cat refused 13 2 1 pairs=1", f'in record 2, as in record 1: {ALIKE} (circuit 2, trace "NORD-SUED 1    "; 1 pair of traces was compared). Ask'),
+    named_by(1, 2, 1): ("cat refused 13 3 1 pairs=2", f'in record 3, as in record 1: {ALIKE} (circuit 3, trace "NORD-SUED 1    "; 2 pairs of traces were compared). Ask'),
+    named_by(1, 2, 3, 3): ("cat refused 13 4 3 pairs=6", f'in record 4, as in record 3: {ALIKE} (circuit 4, trace "NORD-SUED 3    "; 6 pairs of traces were compared). Ask'),
+    named_by(1, 2, 2, 1): ("cat refused 13 3 2 pairs=3", f'in record 3, as in record 2: {ALIKE} (circuit 3, trace "NORD-SUED 2    "; 3 pairs of traces were compared). Ask'),
+    named_by(1, 1) + record(flags="10"): ("cat refused 12 3 pairs=0", "catalogue refused 12 in record 3: flags are above 15 (circuit 9, flags 16; no trace was compared with another). Add"),
+    named_by(*range(512)): ("cat ok 512 pairs=130816", "cat: a good catalogue of 512 records; 130816 pairs of traces were compared"),
+    named_by(*range(511), 510): ("cat refused 13 512 511 pairs=130816", "; 130816 pairs of traces were compared). Ask"),
+    named_by(*range(513)): ("cat refused 9 pairs=0", "(it has 10773 bytes; no trace was compared with another). The file"),
 }
+# lines that no bench prints: a place too few or too many, or one that no character has; pairs where none are counted, and a catalogue check without
+NEVER = {
+    'rx 12 "" 0\n': ("rx refused 21 1", "rx refused 5", "rx refused 5 0", "rx refused 20 16", "rx refused 20 2 7", "rx refused 4 1", "rx refused 21 pairs=0"),
+    "sink\n": ("refused 5", "refused 20 3 1", "refused 21 15", "refused 4 pairs=0"),
+    f"cat {GOOD}\n": ("cat refused 5 1 pairs=0", "cat refused 20 1 pairs=0", "cat refused 21 pairs=0", "cat refused 21 1 1 pairs=0", "cat refused 20 1 16 pairs=0", "cat refused 4 pairs=0",
+                      "cat refused 13 2 pairs=1", "cat refused 9 1 pairs=0", "cat ok 1 pairs=", "cat ok 1 pairs=-1", "cat ok 1 0", "cat ok 1 pairs=0 0", "cat ok 1 pairs=0 pairs=0", "cat ok pairs=0",
+                      "cat pairs=0", "cat refused pairs=0", "cat refused 9 pairs=", "cat refused pairs=0 9", "cat refused 13 2 1 1"),
+    f"lookup 7 {GOOD}\n": ("lookup refused 14 1", "lookup refused 5 3", "lookup refused 14 pairs=0", "found 12 303345352020202020202020202020 15 pairs=0"),
+    f"list {GOOD}\n": ("20 1", "21", "5 1 0", "13 2", "9 pairs=0", "13 2 1 pairs=1"),
+}
+# and lines that an earlier bench printed
+EARLIER = {f"cat {GOOD}\n": ("cat ok 1", "cat refused 9", "cat refused 13 2 1", "cat refused 20 1 3")}
 # what the words must have beside those of the table, from the script's own bytes
 DETAILS = {
-    f"cat {BAD[9]}\n": "it has 22 bytes, 1 more than a whole number of records",
-    f"cat {BAD[10]}\n": "catalogue refused 10 in record 2: a record does not begin with the mark 5A 4D (it begins with 5A 4E)",
-    f"cat {BAD[11]}\n": "the number is 10000",
-    f"cat {BAD[4]}\n": "circuit 9, the label is FF",
-    f"cat {BAD[5]}\n": 'catalogue refused 5 in record 2 at character 5: a trace character is below 20, which is the space (circuit 9, character 5 of its trace "Nord<09>          " is 09, TAB). Look',
+    f"cat {BAD[9]}\n": "(it has 22 bytes, 1 more than a whole number of records; no trace was compared with another). ",
+    f"cat {BAD[10]}\n": "catalogue refused 10 in record 2: a record does not begin with the mark 5A 4D (it begins with 5A 4E; no trace was compared with another). ",
+    f"cat {BAD[11]}\n": "(the number is 10000; no trace was compared with another). ",
+    f"cat {BAD[4]}\n": "(circuit 9, the label is FF; no trace was compared with another). ",
+    f"lookup 7 {BAD[4]}\n": "lookup refused 4 in record 2: label 00 means that nothing is carried and FF means alarm: neither can be sent, expected or listed (circuit 9, the label is FF). ",
+    f"cat {BAD[5]}\n": 'catalogue refused 5 in record 2 at character 5: a trace character is below 20, which is the space (circuit 9, character 5 of its trace "Nord<09>          " is 09, TAB; '
+                       'no trace was compared with another). Look',
     f"cat {BAD[20]}\n": 'catalogue refused 20 in record 3 at character 7: a trace character is above 7E, which is ~ '
-                        '(circuit 9, character 7 of its trace "NORD-S<DC>D       " is DC, \u00dc in Latin-1). Look',
+                        '(circuit 9, character 7 of its trace "NORD-S<DC>D       " is DC, \u00dc in Latin-1; no trace was compared with another). Look',
     f"lookup 7 {BAD[20]}\n": "lookup refused 20 in record 3 at character 7: ",
     f"list {BAD[21]}\n": "listing refused 21 in record 2: all fifteen characters of the trace are spaces, which nobody means (circuit 9). The name is missing",
     f"rx 12 {TAB} 15\n": "rx refused 5 at character 3: a trace character is below 20, which is the space (character 3 of the expected trace is 09, TAB). Look",
@@ -505,8 +572,11 @@ DETAILS = {
     'rx 12 "U\u0308" 0\n': "character 2 of the expected trace is CC, which with 88 is combining diaeresis in UTF-8). ",
     f"rx 12 {hexed(0x81)} 0\n": "character 1 of the expected trace is 81). ",
     'rx 12 "" 15\nsink\n': "rx refused 21: all fifteen characters of the trace are spaces, which nobody means. The name is missing",
-    f"cat {BAD[12]}\n": "circuit 9, flags 16",
-    f"cat {BAD[13]}\n": 'catalogue refused 13 in record 3, as in record 1: two records have the same trace (circuit 9, trace "03E5           ")',
+    f"cat {BAD[21]}\n": "which nobody means (circuit 9; no trace was compared with another). ",
+    f"cat {BAD[12]}\n": "(circuit 9, flags 16; no trace was compared with another). ",
+    f"cat {BAD[13]}\n": 'catalogue refused 13 in record 3, as in record 1: two records have the same trace (circuit 9, trace "03E5           "; 2 pairs of traces were compared). ',
+    f"lookup 7 {BAD[13]}\n": 'lookup refused 13 in record 3, as in record 1: two records have the same trace (circuit 9, trace "03E5           "). ',
+    f"list {BAD[13]}\n": 'listing refused 13 in record 3, as in record 1: two records have the same trace (circuit 9, trace "03E5           "). ',
     "src -\nlen 2357\nsink\n": "the line has 2357 bytes",
     "src -\nlens 2348 2349\nsink\n": "held has 2348, done 2349",
     'rx FF "A" 3\nrun 2\n': "sink refused 4, 2 times: ",
@@ -514,8 +584,8 @@ DETAILS = {
 }
 # other answers: a script, and what must be said
 ANSWERS = {
-    f"cat {GOOD}{OTHER}\n": "cat: a good catalogue of two records",
-    "cat\n": "cat: a good catalogue of no record, as an empty file is",
+    f"cat {GOOD}{OTHER}\n": "cat: a good catalogue of two records; 1 pair of traces was compared",
+    "cat\n": "cat: a good catalogue of no record, as an empty file is; no trace was compared with another",
     f"lookup 7 {GOOD}\n": 'lookup: circuit 7 has label 12 (140 Mbit/s), trace "03E5           ", flags 15 (monitored; RDI, SSF and AIS reported)',
     f"list {GOOD}{OTHER}\n": 'circuit 8: label 12 (140 Mbit/s), trace "03E6           ", flags 15 (monitored; RDI, SSF and AIS reported)',
     "parity 0102\n": "parity: 03, of 2 bytes",
@@ -609,8 +679,23 @@ def look_at_refusals(program, refusals, fault):
                 told = told_of(text.encode(), [line])
                 fault("refusals", f"`{line}` is told, and no bench prints it: {told}")
             except scripts.Fault as wrong:
-                if "which the bench does not print" not in str(wrong):
+                if "which the bench does not print" not in str(wrong) or "earlier" in str(wrong):
                     fault("refusals", f"`{line}`: {wrong}")
+    # nor is a line that an earlier bench printed told, and it is said what to do
+    for text, lines in EARLIER.items():
+        for line in lines:
+            try:
+                fault("an earlier bench", f"`{line}` is told: {told_of(text.encode(), [line])}")
+            except scripts.Fault as wrong:
+                if "which the bench does not print (an earlier bench printed this, without pairs=; play the script again)" not in str(wrong):
+                    fault("an earlier bench", f"`{line}`: {wrong}")
+    for data, (wanted, said) in COUNTED.items():
+        name = f"pairs: {wanted}"
+        printed, told, _ = look_at_script(name, f"cat {data}\n".encode(), program, refusals, fault)
+        if printed != [wanted]:
+            fault(name, f"the bench prints {printed}")
+        if not any(said in each for each in told):
+            fault(name, f"nowhere `{said}`: {told}")
     # a raw byte of another code in quotes is a byte like any other
     look_at_script("a byte of Latin-1", b'rx 12 "NORD-S\xdcD" 15\nsink\n', program, refusals, fault)
     for text, wanted in ANSWERS.items():
@@ -630,6 +715,18 @@ def look_at_traces(program, page, fault):
             printed = lines_of(play(program, line.encode(), "REFUSALS.md"))
             if printed != [f"{call} refused {said}"]:
                 fault("REFUSALS.md", f"`{line.strip()}` prints {printed}, not refused {said}")
+
+
+def look_at_examples(name, page, fault):
+    """What a page says that `cat` prints: the pairs are those of n records without a repeat, of the repeat that is named, or none."""
+    examples = re.findall(r"`(cat (?:ok|refused) \d[^`]*)`", page)
+    for text in examples:
+        found = re.fullmatch(r"cat (?:ok (\d+)|refused (?:13 (\d+) (\d+)|\d+(?: \d+){0,2})) pairs=(\d+)", text)
+        records, later, first, pairs = (int(number or 0) for number in found.groups()) if found else (0, 0, 0, -1)
+        if pairs != (records * (records - 1) // 2 if records else (later - 1) * (later - 2) // 2 + first if later else 0):
+            fault(name, f"no bench prints `{text}`")
+    if not examples:
+        fault(name, "it does not say what `cat` prints")
 
 
 def look_at_rows(program, card, fault):
@@ -711,7 +808,7 @@ def random_script(seed, lines):
         "show": lambda: "show",
         "sink": lambda: "sink",
         "payload": lambda: f"payload {pick((0, 1, 2))}",
-        "cat": lambda: f"cat {pick((GOOD, GOOD + OTHER, '', hexes(), *BAD.values()))}",
+        "cat": lambda: f"cat {pick((GOOD, GOOD + OTHER, '', hexes(), named_by(*[dice.randrange(9) for _ in range(dice.randrange(9))]), *BAD.values()))}",
         "lookup": lambda: f"lookup {pick((7, 8, 0, 10000, 999999999, 1000000000))} {pick((GOOD, BAD[5], BAD[13], BAD[20], BAD[21], ''))}",
         "list": lambda: f"list {pick((GOOD, GOOD + OTHER, '', BAD[4], BAD[5], BAD[20], BAD[21], hexes()))}",
         "parity": lambda: f"parity {hexes()}",
@@ -759,7 +856,7 @@ def look_at_program(folder, program, lesson, data, printed, fault):
         "a line missing": b"\n".join(lines[:10] + lines[11:]), "cut": b"\n".join(lines[:20]) + b"\n", "a line twice": b"\n".join(lines[:7] + lines[6:]),
         "a line more": printed + b"ok\n", "nothing": b"", "bytes": bytes(range(256)) * 4, "a cause that is none": printed.replace(b"cause=cLOP", b"cause=LOP", 1),
         "bits for names": printed.replace(b"d=- cause=cLOP,cSSF", b"d=0000 cause=0110000", 1), "another number": printed.replace(b"? 68", b"? 69").replace(b"ended=1 c", b"ended=2 c", 1),
-        "another script's": b"cat ok 1\n",
+        "another script's": b"cat ok 1 pairs=0\n",
     }
     for name, text in spoiled.items():
         with open(odd, "wb") as file:
@@ -864,7 +961,7 @@ def look_at_desk(folder, program, everything, lesson, data, fault):
     if [line.strip() for line in done.split("\n") if re.match(r" {4}(parity|\?) ", line)] != ["parity 03", "? 2", "? 4"] or "parity: 01" in done:
         fault("desk", f"--raw, or the numbers of lines, or quit: {done[-400:]}")
     # help
-    done = run([sys.executable, DESK, "--bench", *program], b"help\nhelp sink\nhelp 4\nhelp 5\nhelp 20\nhelp 21\nhelp 15\nhelp cTIM\nhelp nothing\n").stdout.decode()
+    done = run([sys.executable, DESK, "--bench", *program], b"help\nhelp sink\nhelp 4\nhelp 5\nhelp 20\nhelp 21\nhelp 15\nhelp cTIM\nhelp cat\nhelp nothing\n").stdout.decode()
     for name in scripts.COMMANDS:
         if not re.search(rf"^  {re.escape(scripts.form(name))}  ", done, re.MULTILINE):
             fault("desk", f"help has no {name}")
@@ -872,7 +969,7 @@ def look_at_desk(folder, program, everything, lesson, data, fault):
     for text in ["st=", "off=", "held=", "ended=", "c=", "ssf=", "tsf=", "ais=", "rdi=", "d=", "cause=", "settled=", "total=", "hb=", "db=",
                  "refusal 4: label 00 means", "refusal 5: a trace character is below 20, which is the space. Look", "refusal 20: a trace character is above 7E, which is ~. Look",
                  "refusal 21: all fifteen characters of the trace are spaces, which nobody means. The name is missing", "There is no help on 15",
-                 "cTIM (HP-TIM): trace mismatch: ", "There is no help on nothing"]:
+                 "cTIM (HP-TIM): trace mismatch: ", "cat HEX: the check of a catalogue of these bytes; pairs= is how many pairs of traces it compared", "There is no help on nothing"]:
         if text not in joined:
             fault("desk", f"help does not say {text}")
     for name, arguments, given in (("a bench that is not there", ["--bench", os.path.join(folder, "none")], b""), ("no such lesson", [os.path.join(folder, "none"), "--bench", *program], b""),
@@ -923,6 +1020,7 @@ def look_at_checks(program, pages, refusals, fault):
 
     base = b'rx 12 "03E5" 15\nrun 70\ntx 12 "03E6" 2 0\nrun 60\nones\nsink\nsink\nsink\nsnk\nrun 9\nsrc i\nsink\nrun 4\nsrc d\nxor 300 07\nsink\nrun 3\nfresh\nrx 00 "" 0 # ends\nrun 2\n'
     base += f'rx 12 {TAB} 15\nsink\ntx 12 {hexed("NORD-S", 0xDC, "D")} 0 0\nsrc -\nrx 12 "" 15\nsink\ncat {BAD[5]}\ncat {BAD[20]}\nlookup 7 {BAD[20]}\nlist {BAD[20]}\ncat {BAD[21]}\n'.encode()
+    base += f"cat\ncat {named_by(1)}\ncat {named_by(1, 2)}\ncat {named_by(1, 2, 3)}\ncat {BAD[13]}\nlookup 7 {BAD[13]}\ncat {named_by(1, 1)}\n".encode()
     printed = lines_of(play(program, base, "these checks"))
     told = told_of(base, printed)
     look_at_run("a good run", base, printed, told, refusals, fault)
@@ -960,7 +1058,27 @@ def look_at_checks(program, pages, refusals, fault):
         "another circuit": change("(circuit 9, character 5", "(circuit 7, character 5"), "advice of above": [text.replace("mostly it is an umlaut", "mostly it is a TAB") for text in told],
         "spaces alone": change("rx refused 21: all fifteen characters", "rx refused 21: all characters"), "a character of spaces alone": change("sink refused 21", "sink refused 21 at character 1"),
         "spaces alone left out": [text for text in told if not text.startswith("catalogue refused 21")],
+        # pairs of traces: how many, in number and in words, of good catalogues and of refused ones, and of no other call
+        "another number of pairs": change("; 3 pairs of traces were", "; 4 pairs of traces were"), "pairs left out": change("; 3 pairs of traces were compared", ""),
+        "one pair left out": change("two records; 1 pair of traces was compared", "two records"), "one for none": change("one record; no trace was compared with another", "one record; 1 pair of traces was compared"),
+        "none for one": change("two records; 1 pair of traces was compared", "two records; no trace was compared with another"), "none left out": change("is; no trace was compared with another", "is"),
+        "many for one": change("two records; 1 pair of traces was", "two records; 1 pairs of traces were"), "were for was": change("; 1 pair of traces was", "; 1 pair of traces were"),
+        "one for many": change("; 3 pairs of traces were", "; 3 pair of traces was"), "was for were": change("; 3 pairs of traces were", "; 3 pairs of traces was"),
+        "a nought for none": change("one record; no trace was compared with another", "one record; 0 pairs of traces were compared"), "pairs of records": change("; 3 pairs of traces", "; 3 pairs of records"),
+        "in brief for whole": change("; 3 pairs of traces were compared", "; 3 pairs compared"), "pairs twice": change("; 3 pairs of traces were compared", "; 3 pairs of traces were compared; 3 pairs of traces were compared"),
+        "another number of records": change("a good catalogue of 3 records", "a good catalogue of 4 records"), "records for record": change("of one record;", "of one records;"),
+        "an empty file": change("of no record, as an empty file is", "of no record"), "a good catalogue left out": [text for text in told if not text.startswith("cat: a good catalogue of 3")],
+        "a good catalogue twice": told + [text for text in told if text.startswith("cat: a good catalogue of 3")], "two good ones in another order": change("of 3 records; 3 pairs of traces were", "of two records; 1 pair of traces was"),
+        "another number of pairs with 13": change("; 2 pairs of traces were compared)", "; 3 pairs of traces were compared)"), "pairs left out with 13": change("; 2 pairs of traces were compared)", ")"),
+        "none with 13": change("; 2 pairs of traces were compared)", "; no trace was compared with another)"), "many for one with 13": change("; 1 pair of traces was compared)", "; 1 pairs of traces were compared)"),
+        "one left out with 13": change("; 1 pair of traces was compared)", ")"), "pairs with 5": change("TAB; no trace was compared with another)", "TAB; 1 pair of traces was compared)"),
+        "none left out with 20": change("in Latin-1; no trace was compared with another)", "in Latin-1)"), "none left out with 21": change("(circuit 9; no trace was compared with another)", "(circuit 9)"),
+        "pairs behind the advice": change("; 2 pairs of traces were compared). Ask both far ends what they send", "). Ask both far ends what they send; 2 pairs of traces were compared"),
+        "pairs of a lookup": [text.replace(")", "; 2 pairs of traces were compared)", 1) if text.startswith("lookup refused 13") else text for text in told],
+        "pairs of a setting": change("of the expected trace is 09, TAB)", "of the expected trace is 09, TAB; no trace was compared with another)"),
     }
+    if any(texts == told for texts in words.values()):
+        fault("these checks", f"nothing is changed: {[name for name, texts in words.items() if texts == told]}")
     for name, texts in words.items():
         tried(name, lambda texts=texts: look_at_run("spoiled", base, printed, texts, refusals, note))
     # printed lines of another run, told as they stand, are not those of this one
@@ -969,7 +1087,11 @@ def look_at_checks(program, pages, refusals, fault):
              ("rx refused 5 3", "rx refused 5 4"), ("rx refused 5 3", "rx refused 20 3"), ("refused 5 3", "refused 5"), ("container refused 20 7", "container refused 20 8"),
              ("container refused 20 7", "container refused 21"), ("cat refused 20 3 7", "cat refused 20 7 3"), ("cat refused 20 3 7", "cat refused 20 3 6"), ("lookup refused 20 3 7", "lookup refused 20 2 7"),
              ("20 3 7", "20 3 8"), ("20 3 7", "5 3 7"),
-             ("rx refused 21", "rx refused 20 1"), ("cat refused 21 2", "cat refused 21 1"), ("cat refused 5 2 5", "cat refused 5 2 4")]
+             ("rx refused 21", "rx refused 20 1"), ("cat refused 21 2", "cat refused 21 1"), ("cat refused 5 2 5", "cat refused 5 2 4"),
+             ("cat ok 3 pairs=3", "cat ok 3 pairs=6"), ("cat ok 3 pairs=3", "cat ok 3 pairs=2"), ("cat ok 3 pairs=3", "cat ok 2 pairs=3"), ("cat ok 3 pairs=3", "cat ok 3"), ("cat ok 2 pairs=1", "cat ok 2 pairs=2"),
+             ("cat ok 1 pairs=0", "cat ok 1 pairs=1"), ("cat ok 0 pairs=0", "cat ok 0 pairs=1"), ("cat ok 3 pairs=3", "cat refused 13 3 2 pairs=3"), ("cat refused 13 3 1 pairs=2", "cat refused 13 3 1 pairs=1"),
+             ("cat refused 13 3 1 pairs=2", "cat refused 13 3 2 pairs=2"), ("cat refused 13 3 1 pairs=2", "cat refused 13 3 1"), ("cat refused 13 2 1 pairs=1", "cat refused 13 2 1 pairs=0"),
+             ("cat refused 5 2 5 pairs=0", "cat refused 5 2 5 pairs=1"), ("cat refused 21 2 pairs=0", "cat refused 21 2")]
     for old, new in lines:
         place = next((place for place, text in enumerate(printed) if text == old), None)  # the whole line, or the first that has it
         place = place if place is not None else next((place for place, text in enumerate(printed) if old in text and (text.startswith("ok ") or not old.startswith(" "))), None)
@@ -979,10 +1101,17 @@ def look_at_checks(program, pages, refusals, fault):
         other = list(printed)
         other[place] = other[place].replace(old, new, 1)
         tried(f"printed {new} for {old}", lambda other=other: look_at_run("spoiled", base, other, told, refusals, note))
-    brief = told_of(base, printed, brief=True)
+    brief, seeded = told_of(base, printed, brief=True), 0
     for name, texts in (("a defect", [text for text in brief if "dTIM clears" not in text]), ("a line", [text for text in brief if "line 9" not in text]),
                         ("too much", brief + ["x" * (LONGEST_BRIEF + 1)]), ("a character", [text.replace(" at character 3", "") for text in brief]),
-                        ("a byte", [text.replace("trace is DC", "trace is DD") for text in brief]), ("a step", [text.replace("decrement 1 to 0", "") for text in brief])):
+                        ("a byte", [text.replace("trace is DC", "trace is DD") for text in brief]), ("a step", [text.replace("decrement 1 to 0", "") for text in brief]),
+                        ("pairs", [text.replace("; 3 pairs compared", "") for text in brief]), ("pairs of 13", [text.replace("; 2 pairs compared)", ")") for text in brief]),
+                        ("the right pairs", [text.replace("; 1 pair compared", "; 2 pairs compared") for text in brief]), ("one pair", [text.replace("; 1 pair ", "; 1 pairs ") for text in brief]),
+                        ("the right pairs of 13", [text.replace("; 2 pairs compared)", "; 3 pairs compared)") for text in brief]), ("none", [text.replace("; no pair compared", "") for text in brief]),
+                        ("few words", [text.replace("; 3 pairs compared", "; 3 pairs of traces were compared") for text in brief]), ("a good catalogue", [text for text in brief if "of 3 records" not in text])):
+        if texts == brief:
+            fault("these checks", f"nothing to change in brief: {name}")
+        seeded += 1
         tried(f"brief without {name}", lambda texts=texts: look_at_brief("spoiled", printed, told, texts, note))
     # pages
     page, glossary, header, card = pages
@@ -1007,7 +1136,11 @@ def look_at_checks(program, pages, refusals, fault):
                            ("no answer", "`rx refused 5 15`", "refused")):
         trials += 1
         tried(name, lambda old=old, new=new: look_at_traces(program, page.replace(old, new), note))
-    return len(words) + len(lines) + trials + 19
+    for name, new in (("another number of pairs on a page", "13 3 1 pairs=3"), ("no pairs on a page", "13 3 1"), ("another record on a page", "13 3 2 pairs=2"), ("pairs before 13 on a page", "12 3 pairs=2"),
+                      ("other pairs of a good catalogue on a page", "13 3 1 pairs=2` and `cat ok 4 pairs=4")):
+        trials += 1
+        tried(name, lambda new=new: look_at_examples("spoiled", page.replace("13 3 1 pairs=2", new), note))
+    return len(words) + len(lines) + seeded + trials + 13
 
 
 # ---------------------------------------------------------------------------
@@ -1040,6 +1173,8 @@ def main():
                 fault(name, "other words with CR LF and a byte order mark")
     look_at_refusals(program, refusals, fault)
     look_at_traces(program, pages[0], fault)
+    look_at_examples("REFUSALS.md", pages[0], fault)
+    look_at_examples("BENCH.md", read("docs/BENCH.md").decode(), fault)
     look_at_rows(program, pages[3], fault)
     look_at_bytes(program, fault)
     for seed in range(4):
@@ -1050,7 +1185,7 @@ def main():
         look_at_desk(folder, program, everything, os.path.join(ROOT, lesson), read(lesson), fault)
     seeded = look_at_checks(program, pages, refusals, fault)
     count = sum(map(len, failures.values()))
-    print(f"explain: {len(names)} scripts and {checked['runs']} runs, {checked['units']} units in {checked['sentences']} sentences, {checked['refusals']} refusals, "
+    print(f"explain: {len(names)} scripts and {checked['runs']} runs, {checked['units']} units in {checked['sentences']} sentences, {checked['refusals']} refusals, {checked['catalogues']} good catalogues, "
           f"{checked['strange']} lines not understood; refusals 1 to 14, 20 and 21, of which the bench cannot give 2 and 8; brief at most {longest} lines; "
           f"{seeded} faults put in are found; {f'{count} faults' if count else 'all as printed'}")
     if count:

@@ -15,9 +15,10 @@ script are read by this test:
     # Question: and # Answer:   one of each, and the same question stands in lessons/README.md
     # Rules in docs/CARD.md: ..   one; each number in it is a rule of that page
 
-lessons/README.md says of each lesson how many lines there are to type, and its minutes are an hour at
-most. Links of lessons/README.md and docs/GLOSSARY.md must lead to files that are there, and a
-definition that is named behind one must stand in its file.
+The pairs of traces that `cat` prints are counted once more, from the script's bytes. lessons/README.md
+says of each lesson how many lines there are to type, and its minutes are an hour at most. Links of
+lessons/README.md and docs/GLOSSARY.md must lead to files that are there, and a definition that is named
+behind one must stand in its file.
 """
 
 import os
@@ -56,7 +57,9 @@ ROWS = {
     "P12": (5, 0x1801, "new data", 1, 0),
 }
 # Lessons that more is asked of than that they print what is kept
-STEPS, TOGETHER, MOST, NOTHING, WHICH = "05-none-one-or-two", "07-two-causes", "13-exactly-66", "14-unequipped", "16-which-character"
+STEPS, TOGETHER, MOST, NOTHING, WHICH, PAIRS = ("05-none-one-or-two", "07-two-causes", "13-exactly-66", "14-unequipped", "16-which-character",
+                                                "17-pairs-counted")
+LONGEST = 512  # records of a catalogue
 
 
 class Shown:
@@ -306,6 +309,50 @@ def look_at_which(lesson, fault):
             fault(f"{lesson.name}.bench", f"no {call or 'sink '}names a character")
 
 
+def traces_of(data):
+    """The traces of a catalogue's records, in hex."""
+    return [data[place + 10 : place + 40].upper() for place in range(0, len(data), RECORD)]
+
+
+def pairs_of(traces):
+    """How many pairs are compared, up to the first that is alike: later record by later record, each with those before it."""
+    pairs = 0
+    for later, trace in enumerate(traces):
+        for earlier in traces[:later]:
+            pairs += 1
+            if earlier == trace:
+                return pairs
+    return pairs
+
+
+def checks(lesson):
+    """Each check of a catalogue, and the traces of its records."""
+    for one in lesson.shown:
+        if one.command == "cat":
+            yield one, traces_of((read_line(lesson.script[one.number - 1])[0] + [""])[1])
+
+
+def look_at_checks(lesson, fault):
+    """The pairs that are printed are those of the script's bytes, and none where length or record was refused before any two were compared."""
+    for one, traces in checks(lesson):
+        due = pairs_of(traces) if re.match("cat (ok|refused 13) ", one.lines[0]) else 0
+        if one.field("pairs") != str(due):
+            fault(f"{lesson.name}.bench:{one.number}", f"{due} pairs of traces are compared; printed: {one.lines[0]}")
+
+
+def look_at_pairs(lesson, fault):
+    """Good catalogues of no record to four, a repeat early, in the last pair and of two the earlier, and one refused before it comes to a repeat; the bound."""
+    place, said = f"{lesson.name}.bench", [one.lines[0] for one, _ in checks(lesson)]
+    for line in [f"cat ok {count} pairs={count * (count - 1) // 2}" for count in range(5)] + ["cat refused 13 2 1 pairs=1", "cat refused 13 4 3 pairs=6", "cat refused 13 3 2 pairs=3"]:
+        if line not in said:
+            fault(place, f"nothing is answered with {line}")
+    if not any(one.field("pairs") == "0" and len(set(traces)) < len(traces) for one, traces in checks(lesson)):
+        fault(place, "no catalogue with a repeated trace is refused before any pair")
+    for count in (LONGEST, LONGEST // 2):
+        if f"{count * (count - 1) // 2:,}" not in "\n".join(lesson.script):
+            fault(place, f"nothing is said of the pairs of {count} records")
+
+
 def look_at_most(lesson, fault):
     place = f"{lesson.name}.bench"
     told = [(one.field("settled"), one.field("total")) for one in lesson.sinks()]
@@ -374,12 +421,14 @@ def main():
         look_at_strange_lines(lesson, fault)
         look_at_questions(lesson, pages[PAGES[0]], fault)
         look_at_rules(lesson, card, fault)
+        look_at_checks(lesson, fault)
     look_at_rows(lessons, pages[PAGES[0]], fault)
     minutes = sum(int(said) for said in re.findall(r"^\*\*.*\*\* \((\d+)\)$", pages[PAGES[0]], re.MULTILINE))
     if not 0 < minutes <= HOUR:
         fault(PAGES[0], f"the lessons take {minutes} minutes")
     by_name = {lesson.name: lesson for lesson in lessons}
-    for name, look in ((STEPS, look_at_steps), (TOGETHER, look_at_together), (MOST, look_at_most), (NOTHING, look_at_nothing), (WHICH, look_at_which)):
+    for name, look in ((STEPS, look_at_steps), (TOGETHER, look_at_together), (MOST, look_at_most), (NOTHING, look_at_nothing), (WHICH, look_at_which),
+                       (PAIRS, look_at_pairs)):
         if name in by_name:
             look(by_name[name], fault)
         else:

@@ -342,7 +342,7 @@ class Reading:
                 answers.append(self.take())
             number = f" {int(given[0])}" if name == "lookup" else ""
             answers = answers[1:] or answers
-            refused = re.fullmatch(r"(?:(?:cat|lookup) refused )?(?:5|20) (\d+) (\d+)", answers[0]) if name in ("cat", "lookup", "list") else None
+            refused = re.fullmatch(r"(?:(?:cat|lookup) refused )?(?:5|20) (\d+) (\d+)(?: pairs=0)?", answers[0]) if name in ("cat", "lookup", "list") else None
             more = [f"record {refused[1]}, {character_in(bytes.fromhex(data)[21 * int(refused[1]) - 16 :], int(refused[2]))}"] if refused else []
             self.remarks.append((self.units_before(), told + behind, name + number, data.upper(), answers, more))
             return
@@ -860,6 +860,10 @@ DAMAGE = {
     "lessons/02-03E5-is-a-name.bench": [
         ("another answer", r">check\u00a01<", ">check\u00a00<", None),
         ("another refusal", r"cat\u00a0refused\u00a013\u00a02\u00a01", "cat\u00a0refused\u00a013\u00a01\u00a02", None),
+        ("another number of pairs", r"cat\u00a0ok\u00a02\u00a0pairs=1<", "cat\u00a0ok\u00a02\u00a0pairs=2<", None),
+        ("pairs left out", r"cat\u00a0ok\u00a01\u00a0pairs=0<", "cat\u00a0ok\u00a01<", None),
+        ("no pair before a refusal", r"\u00a013\u00a02\u00a01\u00a0pairs=1<", "\u00a013\u00a02\u00a01\u00a0pairs=0<", None),
+        ("pairs of a refusal left out", r"cat\u00a0refused\u00a09\u00a0pairs=0<", "cat\u00a0refused\u00a09<", None),
         ("other bytes", r">8B\u00a0\[03E5", ">8B\u00a0[03E6", None),
         ("a blank too few", BLANK * 3 + "<", BLANK * 2 + "<", None),
         ("an answer too few", r'<text [^>]*data-row="answer"[^>]*>.*</text>\n', "", None),
@@ -873,9 +877,21 @@ DAMAGE = {
         ("another byte in a note", r"character 3 is 09", "character 3 is 0A", None),
         ("another place in a note", r"character 7 is DC", "character 8 is DC", None),
         ("another character in a catalogue", r"cat\u00a0refused\u00a020\u00a02\u00a07", "cat\u00a0refused\u00a020\u00a02\u00a06", None),
+        ("pairs with a character", r"\u00a020\u00a02\u00a07\u00a0pairs=0<", "\u00a020\u00a02\u00a07\u00a0pairs=1<", None),
         ("another record", r">record 2, character 7 is DC<", ">record 1, character 7 is DC<", None),
         ("another byte of a record", r">record 2, character 7 is DC<", ">record 2, character 7 is 44<", None),
         ("a record's character left out", r'<text [^>]*data-row="answer"[^>]*>record 2, character 7 is DC</text>\n', "", None),
+    ],
+    "lessons/17-pairs-counted.bench": [
+        ("a pair too many", r"cat\u00a0ok\u00a03\u00a0pairs=3<", "cat\u00a0ok\u00a03\u00a0pairs=4<", None),
+        ("a pair too few", r"cat\u00a0ok\u00a04\u00a0pairs=6<", "cat\u00a0ok\u00a04\u00a0pairs=5<", None),
+        ("pairs of no record", r"cat\u00a0ok\u00a00\u00a0pairs=0<", "cat\u00a0ok\u00a00\u00a0pairs=1<", None),
+        ("no pairs at all", r"cat\u00a0ok\u00a04\u00a0pairs=6<", "cat\u00a0ok\u00a04<", None),
+        ("good for refused", r"cat\u00a0refused\u00a013\u00a04\u00a03\u00a0pairs=6<", "cat\u00a0ok\u00a04\u00a0pairs=6<", None),
+        ("a repeat without its pair", r"\u00a013\u00a02\u00a01\u00a0pairs=1<", "\u00a013\u00a02\u00a01\u00a0pairs=0<", None),
+        ("all pairs of a repeat", r"\u00a013\u00a03\u00a02\u00a0pairs=3<", "\u00a013\u00a03\u00a02\u00a0pairs=6<", None),
+        ("pairs before the repeat", r"\u00a012\u00a04\u00a0pairs=0<", "\u00a012\u00a04\u00a0pairs=1<", None),
+        ("pairs of a lookup", r"(>found\u00a012\u00a0[0-9A-F]+\u00a015)<", "\\1\u00a0pairs=6<", None),
     ],
 }
 
@@ -919,10 +935,16 @@ def check_bad_input(bench, folder):
             fault("bad input", f"{what}: status {ended}, not {status} with `{words}`: {errors[-300:]}")
 
     printed = play(bench, open(good, "rb").read(), good)
+    # what lesson 02 printed before the pairs were counted
+    named = os.path.join(ROOT, "lessons", "02-03E5-is-a-name.bench")
+    kept = re.sub(rb" pairs=\d+\n", b"\n", play(bench, open(named, "rb").read(), named))
     ok = OK.encode()
     for what, options, given, status, words in (
         ("nothing", [], b"", 1, "no unit in it"),
-        ("other lines", [], b"parity 00\ncat ok 1\n", 1, "no unit in it"),
+        ("other lines", [], b"parity 00\ncat ok 1 pairs=0\n", 1, "no unit in it"),
+        ("an earlier bench", [], ok + b"cat refused 13 2 1\n", 1, "printed line 2 is not understood: cat refused 13 2 1 (an earlier bench printed this, without pairs=; play the script again)"),
+        ("an earlier bench, with the script", ["--script", named], kept, 1, "`cat ok 1`, which the bench does not print (an earlier bench printed this, without pairs="),
+        ("pairs of a lookup", [], ok + b"lookup refused 14 pairs=0\n", 1, "printed line 2 is not understood: lookup refused 14 pairs=0"),
         ("no line of the bench", [], ok + b"hello\n", 1, "printed line 2 is not understood: hello"),
         ("a line cut short", [], ok[:60] + b"\n", 1, "printed line 1 is not understood"),
         ("the language before this one", [], ok.replace(b"d=dTIM", b"d=0100"), 1, "printed line 1 is not understood"),

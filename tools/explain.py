@@ -6,8 +6,8 @@
     tools/explain.py SCRIPT --bench PROGRAM [ARGS..]  plays the script itself
 
 Comments of the script stand where they stand there. Units are counted through the whole script, and equal ones that follow each other
-have one sentence. Causes have the names of a tester beside ours, a refusal says what to do, and of a refused character which byte it is; a
-line that was not understood says why.
+have one sentence. Causes have the names of a tester beside ours, a refusal says what to do, and of a refused character which byte it is; the
+check of a catalogue says how many pairs of traces it compared; a line that was not understood says why.
 What is said is what the printed lines and the script show; where they leave a cause open it is left open here.
 
     --brief      few short lines for a projector: large events only, no comments but the title
@@ -158,6 +158,15 @@ def where_text(said):
     for name, words in (("record", " in record"), ("character", " at character"), ("first", ", as in record")):
         text += f"{words} {said[name]}" if name in said else ""
     return text
+
+
+def pairs_text(pairs, brief=False):
+    """How many pairs of traces a catalogue check compared: `3 pairs of traces were compared`, `no trace was compared with another`."""
+    if brief:
+        return f"{pairs or 'no'} pair{'s' if pairs > 1 else ''} compared"
+    if not pairs:
+        return "no trace was compared with another"
+    return f"{pairs} pairs of traces were compared" if pairs > 1 else "1 pair of traces was compared"
 
 
 def ones_in(number):
@@ -752,11 +761,13 @@ class Teller:
         self.say(f"{text}; fingerprint {step.answer['fnv']}", "")
 
     def do_cat(self, step):
+        compared = pairs_text(step.answer["pairs"], self.brief)
         if step.answer.kind == "refused":
-            self.refuse("catalogue", step.answer, self.catalogue_detail(step.answer, step.given["bytes"]))
+            detail = self.catalogue_detail(step.answer, step.given["bytes"])
+            self.refuse("catalogue", step.answer, f"{detail}; {compared}" if detail else compared)
             return
         records = step.answer["records"]
-        self.say(f"cat: a good catalogue of {counted(records, 'record')}" + ("" if records else ", as an empty file is"))
+        self.say(f"cat: a good catalogue of {counted(records, 'record')}{'' if records else ', as an empty file is'}; {compared}")
 
     def do_lookup(self, step):
         if step.answer.kind == "refused":

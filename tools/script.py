@@ -12,6 +12,7 @@ running. What is not a run of the script is a Fault that says where. Nothing her
 
 What a later language adds goes into five tables: COMMANDS (words of a command), CALLS (what a command may print), FIELDS (fields of a
 printed line), FORMS (kinds of printed lines) and PLACES (what a refusal names). A field that no table has is kept as text.
+ADDED has what an earlier language did not print.
 """
 
 import difflib
@@ -370,16 +371,20 @@ NO_RECORD = (9, 14)
 
 
 def refusal_of(found, call=None):
-    """Whose refusal, its number, and `record`, `character` and `first` where it names them; None where it names too few or too many."""
-    call = call or (found["call"] or "sink").strip()
+    """Whose refusal, its number, and `record`, `character` and `first` where it names them; of the catalogue check `pairs` too. None where it
+    names too few or too many, or has pairs where it may have none."""
+    call, pairs = call or (found["call"] or "sink").strip(), found.groupdict().get("pairs")
     number, *places = [int(each) for each in found["numbers"].split(" ")]
+    if (call == "cat") != (pairs is not None):
+        return None
+    counted = {} if pairs is None else {"pairs": int(pairs)}
     if number not in PLACES:
-        return {"call": call, "number": number, "places": places}
+        return {"call": call, "number": number, "places": places, **counted}
     names = ("record",) * (call in ("cat", "lookup", "list") and number not in NO_RECORD) + PLACES[number]
     named = dict(zip(names, places))
     if len(names) != len(places) or not 1 <= named.get("character", 1) <= 15:
         return None
-    return {"call": call, "number": number, **named}
+    return {"call": call, "number": number, **named, **counted}
 
 
 # Kinds of printed lines: the form of the whole line, and its fields; a line is of the first kind whose form and fields it has.
@@ -387,10 +392,10 @@ FORMS = [
     ("?", r"\? (\d+)", lambda found: {"line": int(found[1])}),
     ("unit", r"unit (\w+=.*)", lambda found: fields_of(found[1], SOURCE)),
     ("ok", r"ok (st=.*)", lambda found: fields_of(found[1], SINK)),
-    ("refused", r"(?P<call>(?:container|unit|tx|rx|payload|cat|lookup) )?refused (?P<numbers>\d+(?: \d+)*)", refusal_of),
+    ("refused", r"(?P<call>(?:container|unit|tx|rx|payload|cat|lookup) )?refused (?P<numbers>\d+(?: \d+)*)(?: pairs=(?P<pairs>\d+))?", refusal_of),
     ("line", r"line ?((?:[0-9A-F]{2})*)", lambda found: {"bytes": bytes.fromhex(found[1])}),
     ("payload", r"payload fnv=([0-9A-F]{8})", lambda found: {"fnv": found[1]}),
-    ("cat", r"cat ok (\d+)(?: pairs=(\d+))?", lambda found: {"records": int(found[1]), "pairs": found[2] and int(found[2])}),
+    ("cat", r"cat ok (\d+) pairs=(\d+)", lambda found: {"records": int(found[1]), "pairs": int(found[2])}),
     ("found", r"found ([0-9A-F]{2}) ([0-9A-F]{30}) (\d+)",
      lambda found: {"label": int(found[1], 16), "trace": bytes.fromhex(found[2]), "flags": int(found[3])}),
     ("heading", r"circuit label trace flags", lambda found: {}),
@@ -402,6 +407,8 @@ FORMS = [
     ("read", r"read (\d+)", lambda found: {"number": int(found[1])}),
 ]
 FORMS = [(kind, re.compile(pattern), fields) for kind, pattern, fields in FORMS]
+# What has come behind a printed line since an earlier bench. A run of that one may have been kept.
+ADDED = ["pairs=0"]
 
 # What a command that always prints may print: kinds, or "refused" and whose.
 CALLS = {
@@ -427,6 +434,12 @@ def read_printed(text):
             if values is not None:
                 return Printed(text, kind, values)
     return None
+
+
+def earlier(text):
+    """Behind a message on a printed line that is of no kind: what to do where an earlier bench printed it; else nothing."""
+    added = next((each for each in ADDED if read_printed(f"{text} {each}")), None)
+    return f" (an earlier bench printed this, without {added.partition('=')[0]}=; play the script again)" if added else ""
 
 
 def whose(printed):
@@ -510,7 +523,7 @@ class Pairing:
             printed = read_printed(text)
             if printed is None or whose(printed) not in kinds or printed.kind == "?" and printed["line"] != line.number:
                 raise Fault(f"not a run of this script: to its line {line.number}, `{line.shown()}`, the answer was `{clean(text)[:100]}`"
-                            + ("" if printed else ", which the bench does not print"))
+                            + ("" if printed else f", which the bench does not print{earlier(text)}"))
             return printed
 
         if line.name == "":

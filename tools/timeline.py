@@ -348,7 +348,7 @@ def without_script(printed):
     for number, line in enumerate(printed, 1):
         said = script.read_printed(line)
         if said is None:
-            raise script.Fault(f"printed line {number} is not understood: {script.clean(line)[:100]}")
+            raise script.Fault(f"printed line {number} is not understood: {script.clean(line)[:100]}{script.earlier(line)}")
         if said.kind == "?":
             run.no_sink()
             run.note(f"line {said['line']} of the script not understood")
