@@ -11,7 +11,8 @@ use Rattle.records.specs.Faults.{firstFault}
 use Rattle.records.specs.declared.Kind.{Kind}
 use Rattle.records.specs.declared.Refusal.the-variants.{Repeated}
 use Rattle.records.specs.declared.First.the-variants.{Of, Nothing}
-use Rattle.pairs.specs.Pairs.{Pair, pairsWith, pairsFrom, oneTrace, repeated, Visit, oneMore, visit, visitedOf}
+use Rattle.pairs.specs.Pairs.{Pair, pairsWith, pairsFrom, oneTrace, repeated, Visit, oneMore, visit}
+use Rattle.pairs.specs.Inner.{visitedOf}
 use Rattle.pairs.specs.declared.Visited.{Visited}
 
 pub between : (i j n : ℕ) → i < j → j < n → i < n

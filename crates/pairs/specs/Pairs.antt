@@ -1,16 +1,14 @@
--- The pairs of a file's records, in the order in which their traces are compared, and what comes of it: refusal 13 of 01, "two records with one trace", and, by ask 13 of 02,
--- "how many pairs of traces it compared", "later record by later record, stopping at the first repeat".
+-- The pairs of a file's records in the order in which their traces are compared, and what the visit of them comes to: refusal 13 of 01, "two records with one trace",
+-- and, by ask 13 of 02, "how many pairs of traces it compared", "later record by later record, stopping at the first repeat".
 use Prim.Native.Nat.{ℕ, zero, suc, _+_}
 use mathlib.Core.Bool.{Bool, cond}
 use mathlib.Core.List.{List, [], _∷_, _++_}
 use Rattle.trace_message.specs.Message.{alike}
 use Rattle.refusals.specs.Refusals.{Fault, noAt}
 use Rattle.records.specs.Record.{recordAt, traceIn}
-use Rattle.records.specs.Faults.{firstFault}
 use Rattle.records.specs.declared.Kind.{Kind}
 use Rattle.records.specs.declared.Refusal.{Refusal}
 use Rattle.records.specs.declared.Refusal.the-variants.{Repeated}
-use Rattle.pairs.specs.declared.Visited.{Visited}
 
 -- ---- in which order
 
@@ -53,7 +51,3 @@ unfoldable pub visit : Kind → List ℕ → List Pair → Visit
 visit kind s [] = record { compared = 0; repeats = [] }
 visit kind s (p ∷ ps) =
     cond (oneTrace kind s (p .first) (p .later)) (record { compared = 1; repeats = repeated p ∷ [] }) (oneMore (visit kind s ps))
-
--- the same as an answer
-unfoldable pub visitedOf : Visit → Visited
-visitedOf v = record { repeat = firstFault (v .repeats); pairs = v .compared }
