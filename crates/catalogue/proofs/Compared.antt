@@ -2,12 +2,10 @@
 use mathlib.Core.Path.{_≡_, refl, sym, ap, _∙_}
 use mathlib.Core.List.{List, [], _∷_, _++_}
 use mathlib.Core.Logic.{_⊎_, inl, inr, ⊎-elim}
-use Prim.Native.Nat.{ℕ, zero, suc, _+_, _-_, _*_, _/_, _<_, _≤_}
+use Prim.Native.Nat.{ℕ, _+_, _-_, _*_, _/_, _<_, _≤_}
 use native.Mathlib.Nat.{eq-or-lt-of-le}
 use native.Mathlib.Omega.{arith}
-use lib.ListN.{length}
 use Rattle.refusals.specs.Refusals.{Fault}
-use Rattle.records.specs.Record.{mostRecords}
 use Rattle.records.specs.Refusals.{catalogueNumber}
 use Rattle.records.specs.Inner.{Serves}
 use Rattle.records.specs.Faults.{firstFault}
@@ -15,34 +13,12 @@ use Rattle.records.specs.declared.Kind.{Kind}
 use Rattle.records.specs.declared.Refusal.{Refusal}
 use Rattle.records.specs.declared.Refusal.the-variants.{Repeated}
 use Rattle.records.specs.declared.First.the-variants.{Of, Nothing}
-use Rattle.pairs.proofs.Visits.{pairsAmong, among-next, Found, Absent}
-use Rattle.catalogue.specs.Catalogue.{lengthRefused, records, faultsBefore, visitOf, faults, catalogueAnswer, checkOf, comparedAfter, pairsOf}
+use Rattle.pairs.proofs.Visits.{pairsAmong, among-next, among-le, among-0, among-512, Found, Absent}
+use Rattle.catalogue.specs.Catalogue.{records, faultsBefore, visitOf, faults, checkOf, comparedAfter, pairsOf}
 use Rattle.catalogue.specs.declared.Checked.the-variants.{Good, Refused}
 use Rattle.catalogue.proofs.Answers.{good-answer, passed-records}
 use Rattle.catalogue.proofs.Scan.{first-none-left}
 use Rattle.catalogue.proofs.Repeats.{traceAt, traces-same, pairs-of, passed-first, found-first, found-earliest, absent-first, absent-none, refused-why, pair-named}
-
--- ---- how many pairs records have
-
--- more records have more pairs
-among-more : (m n : ℕ) → pairsAmong m ≤ pairsAmong (m + n)
-among-more m zero = let q : pairsAmong (m + 0) ≡ pairsAmong m = ap pairsAmong (omega arith) in omega arith
-among-more m (suc n) =
-    let q : pairsAmong (m + suc n) ≡ pairsAmong (m + n + 1) = ap pairsAmong (omega arith) in
-    omega (arith, among-more m n, among-next (m + n))
-
-among-le : (m n : ℕ) → m ≤ n → pairsAmong m ≤ pairsAmong n
-among-le m n h =
-    let q : pairsAmong (m + (n - m)) ≡ pairsAmong n = ap pairsAmong (omega arith) in
-    omega (arith, among-more m (n - m))
-
-among-0 : pairsAmong 0 ≡ 0
-unfolding pairsAmong
-among-0 = refl
-
-among-512 : pairsAmong 512 ≡ 130816
-unfolding pairsAmong
-among-512 = refl
 
 -- ---- a file that passed the rest
 
@@ -122,7 +98,7 @@ compared-most kind s = go (faultsBefore kind s) refl
     go [] q = passed-most kind s q
     go (f ∷ l) q = rw q (omega arith)
 
--- so never more than the pairs of 512 records, of either kind and whatever the file
+-- so never more than the pairs of 512 records, whatever the file
 pub compared-512 : (kind : Kind) (s : List ℕ) → Serves kind → pairsOf kind s ≤ 130816
 unfolding pairsOf comparedAfter
 compared-512 kind s serves = go (faultsBefore kind s) refl
@@ -142,17 +118,17 @@ module _ (kind : Kind) (s : List ℕ) (p : faultsBefore kind s ≡ []) where
       let q : pairsAmong (f .later + 1) ≡ pairsAmong (records kind s) = ap pairsAmong k in
       omega (arith, found-pairs kind s p f, among-next (f .later))
 
-  -- the repeat is found with the last pair of all
-  found-last : (f : Found kind s 0 (records kind s)) → pairsOf kind s ≡ pairsAmong (records kind s) → (f .first + 2 ≡ records kind s) × (f .later + 1 ≡ records kind s)
-  found-last f e =
-      let below : f .later + 1 ≤ records kind s = omega (arith, f .below) in
-      let last : f .later + 1 ≡ records kind s =
+  -- the repeat is found with the last pair of all: no later record is left, and no earlier one
+  later-last : (f : Found kind s 0 (records kind s)) → pairsOf kind s ≡ pairsAmong (records kind s) → f .later + 1 ≡ records kind s
+  later-last f e =
       ⊎-elim (λ q. q)
       (λ l. absurd (omega (arith, e, found-pairs kind s p f, f .lower, among-next (f .later), among-next (f .later + 1), among-le (f .later + 1 + 1) (records kind s) (omega arith))))
-      (eq-or-lt-of-le below)
-      in
-      let q : pairsAmong (f .later + 1) ≡ pairsAmong (records kind s) = ap pairsAmong last in
-      (omega (arith, e, found-pairs kind s p f, among-next (f .later)), last)
+      (eq-or-lt-of-le {n = f .later + 1} {m = records kind s} (omega (arith, f .below)))
+
+  first-last : (f : Found kind s 0 (records kind s)) → pairsOf kind s ≡ pairsAmong (records kind s) → f .first + 2 ≡ records kind s
+  first-last f e =
+      let q : pairsAmong (f .later + 1) ≡ pairsAmong (records kind s) = ap pairsAmong (later-last f e) in
+      omega (arith, e, found-pairs kind s p f, among-next (f .later), later-last f e)
 
   -- so all pairs of a file that passed the rest are compared exactly where no two records, but perhaps the last two, have one trace
   pub all-compared : NoneButLast kind s → pairsOf kind s ≡ records kind s * (records kind s - 1) / 2
@@ -168,9 +144,8 @@ module _ (kind : Kind) (s : List ℕ) (p : faultsBefore kind s ≡ []) where
     where
       by-found : Found kind s 0 (records kind s) → (i + 2 ≡ records kind s) × (j + 1 ≡ records kind s)
       by-found f =
-          let l = found-last f e in
           let at = found-earliest kind s f in
           let late : j < f .later → ⊥ = λ m. at .earliest i j h m same in
-          let is : j ≡ f .later = omega (arith, l .1) in
+          let is : j ≡ f .later = omega (arith, later-last f e) in
           let early : i < f .first → ⊥ = λ m. at .foremost i m (rw is at same) in
-          (omega (arith, l .0, l .1), omega (arith, l .1))
+          (omega (arith, first-last f e, later-last f e), omega (arith, later-last f e))

@@ -1,8 +1,8 @@
 -- The scan over the pairs of records: a turn of each loop and its ends. What was compared so far, with what is still to be visited, is the whole visit. Assumes nothing.
-use mathlib.Core.Path.{_≡_, refl, sym, ap, _∙_}
+use mathlib.Core.Path.{_≡_, refl, ap, _∙_}
 use mathlib.Core.Bool.{Bool, true, false}
-use mathlib.Core.List.{List, [], _∷_, _++_}
-use Prim.Native.Nat.{ℕ, suc, _+_, _-_, _<_, _≤_}
+use mathlib.Core.List.{List, [], _++_}
+use Prim.Native.Nat.{ℕ, _+_, _-_, _<_, _≤_}
 use native.Mathlib.Omega.{arith}
 use Rattle.laws.proofs.Loops.{one-less, none-left, all-left}
 use Rattle.trace_message.specs.Message.{alike}
@@ -13,7 +13,6 @@ use Rattle.records.specs.declared.Refusal.the-variants.{Repeated}
 use Rattle.records.specs.declared.First.the-variants.{Of, Nothing}
 use Rattle.pairs.specs.Pairs.{Pair, pairsWith, pairsFrom, oneTrace, repeated, Visit, oneMore, visit}
 use Rattle.pairs.specs.Inner.{visitedOf}
-use Rattle.pairs.specs.declared.Visited.{Visited}
 
 pub between : (i j n : ℕ) → i < j → j < n → i < n
 between i j n h k = omega arith

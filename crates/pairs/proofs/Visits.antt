@@ -1,6 +1,6 @@
 -- What a visit of all pairs of n records comes to: it stops at the earliest later record that repeats a trace, with the first record that has it, or goes to the end;
 -- and how many pairs it compared. Records are counted from 0. Assumes nothing.
-use mathlib.Core.Path.{_≡_, refl, sym, ap, _∙_}
+use mathlib.Core.Path.{_≡_, refl, ap, _∙_}
 use mathlib.Core.Bool.{Bool, true, false}
 use mathlib.Core.List.{List, [], _∷_, _++_}
 use mathlib.Core.Logic.{_⊎_, inl, inr, ⊎-elim}
@@ -8,7 +8,7 @@ use Prim.Native.Nat.{ℕ, zero, suc, _+_, _-_, _*_, _/_, _<_, _≤_}
 use native.Mathlib.Nat.{eq-or-lt-of-le}
 use native.Mathlib.Omega.{arith}
 use Rattle.records.specs.declared.Kind.{Kind}
-use Rattle.pairs.specs.Pairs.{Pair, pairsWith, pairsFrom, oneTrace, repeated, Visit, oneMore, visit}
+use Rattle.pairs.specs.Pairs.{Pair, pairsWith, pairsFrom, oneTrace, repeated, oneMore, visit}
 
 -- ---- how many pairs n records have
 
@@ -23,6 +23,26 @@ among-next (suc n) =
     let p : suc n + 1 - 1 ≡ suc n = omega arith in
     let q : suc n - 1 ≡ n = omega arith in
     rw (p, q) (omega arith)
+
+-- more records have more pairs
+among-more : (m n : ℕ) → pairsAmong m ≤ pairsAmong (m + n)
+among-more m zero = let q : pairsAmong (m + 0) ≡ pairsAmong m = ap pairsAmong (omega arith) in omega arith
+among-more m (suc n) =
+    let q : pairsAmong (m + suc n) ≡ pairsAmong (m + n + 1) = ap pairsAmong (omega arith) in
+    omega (arith, among-more m n, among-next (m + n))
+
+pub among-le : (m n : ℕ) → m ≤ n → pairsAmong m ≤ pairsAmong n
+among-le m n h =
+    let q : pairsAmong (m + (n - m)) ≡ pairsAmong n = ap pairsAmong (omega arith) in
+    omega (arith, among-more m (n - m))
+
+pub among-0 : pairsAmong 0 ≡ 0
+unfolding pairsAmong
+among-0 = refl
+
+pub among-512 : pairsAmong 512 ≡ 130816
+unfolding pairsAmong
+among-512 = refl
 
 -- ---- numbers from a place on
 
