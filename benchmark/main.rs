@@ -475,43 +475,74 @@ fn sources() {
 
 // ---- how the cost grows
 
-/// A good catalogue of n records whose traces agree in their first 11 characters.
-fn catalogue(n: usize) -> Vec<u8> {
+/// A good catalogue of n records with these traces.
+fn catalogue_of(n: usize, trace: fn(usize) -> [u8; 15]) -> Vec<u8> {
     let mut b = Vec::new();
     for k in 0..n {
         b.extend_from_slice(&[0x5A, 0x4D]);
         b.extend_from_slice(&(k as u16 + 1).to_be_bytes());
         b.push(LABEL);
-        b.extend_from_slice(format!("CIRCUIT-VC-{k:04}").as_bytes());
+        b.extend_from_slice(&trace(k));
         b.push(0x0F);
     }
     b
+}
+
+/// Traces that end in a number of four digits: up to 1000 records they agree in their first 12 characters.
+fn numbered(k: usize) -> [u8; 15] {
+    let mut trace = *b"CIRCUIT-VC-0000";
+    trace[11..].copy_from_slice(format!("{k:04}").as_bytes());
+    trace
+}
+
+/// Traces that differ in their last two characters alone, with as many as can be that differ in the last alone.
+fn differ_last(k: usize) -> [u8; 15] {
+    let mut trace = *b"CIRCUIT-VC-0000";
+    trace[13] = b'0' + (k / 95) as u8;
+    trace[14] = b' ' + (k % 95) as u8;
+    trace
+}
+
+/// Traces that differ in their first two.
+fn differ_first(k: usize) -> [u8; 15] {
+    let mut trace = *b"00-CIRCUIT-VC-4";
+    trace[0] = b'0' + (k / 95) as u8;
+    trace[1] = b' ' + (k % 95) as u8;
+    trace
 }
 
 /// No trace is repeated, so that all n(n-1)/2 pairs are compared: the most that n records can have, which a pair's time turns into a bound on the check's.
 /// What a record itself costs is in a pair's time too, and is most of it where records are few.
 fn catalogues() {
     for n in [1usize, 2, 4, 8, 16, 32, 64, 128, 256, 512] {
-        let b = catalogue(n);
-        let pairs = second::catalogue_check(&b).pairs;
-        assert!(pairs == n * (n - 1) / 2 && proved::check(&b) >> 40 == pairs as u64);
-        let calls = (200 * 64 / (n * n)).clamp(2, 400);
-        let times = show_all(
-            &format!("catalogue check, {n} records that differ late in their traces"),
-            if n < 256 { TURNS } else { 100 },
-            &mut [
-                ("proved", &mut || once(calls, &mut || {
-                    black_box(unsafe { c::probe_check(black_box(b.as_ptr()), b.len()) });
-                })),
-                ("second program", &mut || once(calls, &mut || {
-                    black_box(second::catalogue_check(black_box(&b)));
-                })),
-            ],
-        );
-        for (what, took) in ["proved", "second program"].iter().zip(times) {
-            let a_pair = if pairs == 0 { "no pair".to_string() } else { format!("{:.2} ns a pair of {pairs}", took / pairs as f64) };
-            println!("    {what:<44} {:>11.1} ns a record, {a_pair}", took / n as f64);
-        }
+        pairs_of(n, "that end in a number", numbered);
+    }
+    // where two traces differ moves a pair's time, so a bound wants the dearest
+    pairs_of(512, "that differ in their last two characters", differ_last);
+    pairs_of(512, "that differ in their first two characters", differ_first);
+}
+
+/// The check of a good catalogue, and what it takes a record and a pair.
+fn pairs_of(n: usize, which: &str, trace: fn(usize) -> [u8; 15]) {
+    let b = catalogue_of(n, trace);
+    let pairs = second::catalogue_check(&b).pairs;
+    assert!(pairs == n * (n - 1) / 2 && proved::check(&b) >> 40 == pairs as u64);
+    let calls = (200 * 64 / (n * n)).clamp(2, 400);
+    let times = show_all(
+        &format!("catalogue check, {n} records with traces {which}"),
+        if n < 256 { TURNS } else { 100 },
+        &mut [
+            ("proved", &mut || once(calls, &mut || {
+                black_box(unsafe { c::probe_check(black_box(b.as_ptr()), b.len()) });
+            })),
+            ("second program", &mut || once(calls, &mut || {
+                black_box(second::catalogue_check(black_box(&b)));
+            })),
+        ],
+    );
+    for (what, took) in ["proved", "second program"].iter().zip(times) {
+        let a_pair = if pairs == 0 { "no pair".to_string() } else { format!("{:.2} ns a pair of {pairs}", took / pairs as f64) };
+        println!("    {what:<44} {:>11.1} ns a record, {a_pair}", took / n as f64);
     }
 }
 
@@ -520,7 +551,7 @@ fn stacks() {
     let mut room = vec![0u8; UNIT];
     let mut done = vec![0u8; CONTAINER];
     let text = bytes(16, 3);
-    let catalogue = catalogue(512);
+    let catalogue = catalogue_of(512, numbered);
     let mut list = Box::new([0u8; 15898]);
     let mut trace = [0u8; 15];
     println!("stack of each entry point, in bytes");
