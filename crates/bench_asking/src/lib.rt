@@ -1,7 +1,9 @@
-// Commands that ask and change nothing: the catalogue's three, and the host's three functions.
+// Commands that ask and change nothing: the catalogue's three, its import and export, and the host's three functions.
 use bench_script::least;
 use catalogue::Checked;
 use catalogue::Found;
+use exporting::Exported;
+use importing::Imported;
 use records::Refusal;
 
 fn say_refusal(what: &[u8], x: Refusal) {
@@ -55,6 +57,50 @@ fn list(s: &[u8]) {
     bench_say::text(&out[..n]);
 }
 
+// What was asked for and good: bytes, which may be none.
+fn say_bytes(what: &[u8], s: &[u8]) {
+    bench_say::text(what);
+    if 0 < s.len() {
+        bench_say::text(b" ");
+    }
+    bench_say::all(s);
+    bench_say::text(b"\n");
+}
+
+// `import`
+fn import(s: &[u8]) {
+    let mut out = [0u8; 10752];
+    match importing::import(s, &mut out) {
+        Imported::Good(k) => {
+            let n = 21 * k;
+            say_bytes(b"import ok", &out[..n]);
+        }
+        Imported::Refused(x) => {
+            let places = importing::named(x);
+            bench_say::refused(
+                b"import refused ",
+                importing::number(x),
+                places.first,
+                places.second,
+            );
+        }
+    }
+}
+
+// `export`
+fn export(s: &[u8]) {
+    let mut out = [0u8; 23552];
+    match exporting::export(s, &mut out) {
+        Exported::Text(n) => {
+            say_bytes(b"export ok", &out[..n]);
+        }
+        Exported::Not(x) => {
+            say_refusal(b"export refused ", x);
+            bench_say::text(b"\n");
+        }
+    }
+}
+
 // `parity`
 fn parity(s: &[u8]) {
     bench_say::text(b"parity ");
@@ -91,6 +137,10 @@ const READ: u8 = 5;
 
 const LOOKUP: u8 = 6;
 
+const IMPORT: u8 = 7;
+
+const EXPORT: u8 = 8;
+
 // Those that take bytes in hex, or none.
 fn with_bytes(s: &[u8]) -> u8 {
     if bench_script::is(s, 0, b"cat") {
@@ -98,6 +148,12 @@ fn with_bytes(s: &[u8]) -> u8 {
     }
     if bench_script::is(s, 0, b"list") {
         return LIST;
+    }
+    if bench_script::is(s, 0, b"import") {
+        return IMPORT;
+    }
+    if bench_script::is(s, 0, b"export") {
+        return EXPORT;
     }
     if bench_script::is(s, 0, b"parity") {
         return PARITY;
@@ -139,6 +195,14 @@ fn ask(code: u8, s: &[u8], number: u64, work: &mut [u8]) {
     }
     if code == LIST {
         list(&work[..e]);
+        return;
+    }
+    if code == IMPORT {
+        import(&work[..e]);
+        return;
+    }
+    if code == EXPORT {
+        export(&work[..e]);
         return;
     }
     if code == PARITY {

@@ -8,8 +8,9 @@ use lib.Dec.{eqb}
 use lib.ListN.{length}
 use Rattle.records.specs.declared.PlaceList.{PlaceList}
 use Rattle.records.specs.Refusals.{catalogueNumber, cataloguePlaces, placesGiven}
-use Rattle.catalogue.specs.Catalogue.{countedOf, Checks, lookupOf, LooksUp}
-use Rattle.probe.specs.Probe.{packed, packedChecked, packedCheck, packedFound}
+use Rattle.records.specs.Record.{oldKind}
+use Rattle.catalogue.specs.Catalogue.{checkOf, countedOf, Checks, lookupOf, LooksUp}
+use Rattle.probe.specs.Probe.{packedAt, packed, packedChecked, packedCheck, packedFound, packedImported, packedExported}
 use Rattle.records.specs.declared.Kind.{Kind}
 use Rattle.records.specs.declared.Refusal.{Refusal}
 use Rattle.catalogue.specs.declared.Checked.{Checked}
@@ -18,13 +19,23 @@ use Rattle.catalogue.specs.declared.Counted.{Counted}
 use Rattle.catalogue.specs.declared.Found.{Found}
 use Rattle.catalogue.specs.declared.Found.the-variants.{Entry, Not}
 use Rattle.catalogue.specs.declared.Looked.{Looked}
+use Rattle.importing.specs.Import.{importNumber, importPlaces, importOf, resultOf, leftBy, Imports}
+use Rattle.importing.specs.declared.Refusal as importing-refusal
+use Rattle.importing.specs.declared.Imported.{Imported}
+use Rattle.importing.specs.declared.Imported.the-variants as imported
+use Rattle.exporting.specs.Export.{exportOf, exportAnswer, Exports}
+use Rattle.exporting.specs.declared.Exported.{Exported}
+use Rattle.exporting.specs.declared.Exported.the-variants as exported
 
 -- ---- a refusal, of number n and places p: r is what was packed
 
+packed-at : (number n r : ℕ) (places : List ℕ) (p : PlaceList) → n ≡ number → p ≡ placesGiven places → r ≡ n * 4294967296 + p .first % 65536 * 65536 + p .second % 65536 → r ≡ packedAt number places
+unfolding packedAt
+packed-at number n r places p is-n is-p e = e ∙ rw (is-n, is-p)
+
 pub packed-is : (x : Refusal) (n r : ℕ) (p : PlaceList) → n ≡ catalogueNumber x → p ≡ placesGiven (cataloguePlaces x)
     → r ≡ n * 4294967296 + p .first % 65536 * 65536 + p .second % 65536 → r ≡ packed x
-unfolding packed
-packed-is x n r p is-n is-p e = e ∙ rw (is-n, is-p)
+packed-is x n r p is-n is-p e = packed-at (catalogueNumber x) n r (cataloguePlaces x) p is-n is-p e
 
 -- ---- the check
 
@@ -70,3 +81,33 @@ module _ (src dst : List ℕ) (h : length src ≡ length dst) where
 
   pub copied-all : (after : List ℕ) → after ≡ src → after ≡ cond (eqb (length src) (length dst)) src dst
   copied-all after e = rw (eq-eqb (length src) (length dst) h) e
+
+-- ---- the import, which answered i, and the export, which answered x
+
+module _ (i : Imported) (r : ℕ) where
+  pub imported-good : (n : ℕ) → i ≡ imported.Good n → r ≡ n → r ≡ packedImported i
+  unfolding packedImported
+  imported-good n e f = rw e f
+
+  pub imported-refused : (x : importing-refusal.Refusal) (n : ℕ) (p : PlaceList) → i ≡ imported.Refused x → n ≡ importNumber x → p ≡ placesGiven (importPlaces x)
+      → r ≡ n * 4294967296 + p .first % 65536 * 65536 + p .second % 65536 → r ≡ packedImported i
+  unfolding packedImported
+  imported-refused x n p e is-n is-p f = rw e (packed-at (importNumber x) n r (importPlaces x) p is-n is-p f)
+
+  pub import-packed : (s b a : List ℕ) → Imports s b a i → r ≡ packedImported i → r ≡ packedImported (importOf s)
+  import-packed s b a d e = rw (d .answer-is) at e
+
+pub import-left : (s b a : List ℕ) (i : Imported) → Imports s b a i → a ≡ leftBy (importOf s) (resultOf s) b
+import-left s b a i d = d .now-is
+
+module _ (x : Exported) (r : ℕ) where
+  pub exported-text : (n : ℕ) → x ≡ exported.Text n → r ≡ n → r ≡ packedExported x
+  unfolding packedExported
+  exported-text n e f = rw e f
+
+  pub exported-not : (y : Refusal) → x ≡ exported.Not y → r ≡ packed y → r ≡ packedExported x
+  unfolding packedExported
+  exported-not y e f = rw e f
+
+  pub export-packed : (s b a : List ℕ) → Exports s b a x → r ≡ packedExported x → r ≡ packedExported (exportAnswer (length (exportOf s)) (checkOf oldKind s))
+  export-packed s b a d e = rw (d .answer-is) at e

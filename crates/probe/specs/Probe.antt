@@ -1,5 +1,6 @@
--- The answers of the catalogue as plain numbers, so that tests and benchmarks in another language can read them.
+-- The answers of the catalogue, its import and its export as plain numbers, so that tests and benchmarks in another language can read them.
 use Prim.Native.Nat.{ℕ, _+_, _*_, _%_}
+use mathlib.Core.List.{List}
 use Rattle.records.specs.Refusals.{catalogueNumber, cataloguePlaces, placesGiven}
 use Rattle.records.specs.declared.Refusal.{Refusal}
 use Rattle.catalogue.specs.declared.Checked.{Checked}
@@ -7,11 +8,19 @@ use Rattle.catalogue.specs.declared.Checked.the-variants.{Good, Refused}
 use Rattle.catalogue.specs.declared.Counted.{Counted}
 use Rattle.catalogue.specs.declared.Found.{Found}
 use Rattle.catalogue.specs.declared.Found.the-variants.{Entry, Not}
+use Rattle.importing.specs.Import.{importNumber, importPlaces}
+use Rattle.importing.specs.declared.Imported.{Imported}
+use Rattle.importing.specs.declared.Imported.the-variants as imported
+use Rattle.exporting.specs.declared.Exported.{Exported}
+use Rattle.exporting.specs.declared.Exported.the-variants as exported
 
--- a refusal: its number, then two places of 16 bits each, 0 where there is none
-unfoldable pub packed : Refusal → ℕ
-packed x =
-    catalogueNumber x * 4294967296 + placesGiven (cataloguePlaces x) .first % 65536 * 65536 + placesGiven (cataloguePlaces x) .second % 65536
+-- a number, then two places of 16 bits each, 0 where there is none
+unfoldable pub packedAt : ℕ → List ℕ → ℕ
+packedAt number places = number * 4294967296 + placesGiven places .first % 65536 * 65536 + placesGiven places .second % 65536
+
+-- a refusal
+abbrev pub packed : Refusal → ℕ
+packed x = packedAt (catalogueNumber x) (cataloguePlaces x)
 
 -- a good catalogue: the number of its records
 unfoldable pub packedChecked : Checked → ℕ
@@ -26,3 +35,13 @@ packedCheck c = c .pairs % 16777216 * 1099511627776 + packedChecked (c .checked)
 unfoldable pub packedFound : Found → ℕ
 packedFound (Entry label flags) = label * 256 + flags
 packedFound (Not x) = packed x
+
+-- an import: the number of records
+unfoldable pub packedImported : Imported → ℕ
+packedImported (imported.Good n) = n
+packedImported (imported.Refused x) = packedAt (importNumber x) (importPlaces x)
+
+-- an export: the length of the text
+unfoldable pub packedExported : Exported → ℕ
+packedExported (exported.Text n) = n
+packedExported (exported.Not x) = packed x

@@ -8,11 +8,17 @@ ghost use lib.ListN.{length};
 ghost use Rattle.trace_message.specs.Message.{startByte};
 ghost use Rattle.word.specs.Word.{plainWord, invertedWord, inverted};
 ghost use Rattle.records.specs.Record.{oldKind};
-ghost use Rattle.catalogue.specs.Catalogue.{countedOf, lookupOf};
+ghost use Rattle.catalogue.specs.Catalogue.{checkOf, countedOf, lookupOf};
 ghost use Rattle.listing.specs.Listing.{Listed};
-ghost use Rattle.probe.specs.Probe.{packed, packedChecked, packedCheck, packedFound};
+ghost use Rattle.importing.specs.Import.{importOf, resultOf, leftBy};
+ghost use Rattle.copier.specs.Put.{put};
+ghost use Rattle.exporting.specs.Export.{exportOf, exportAnswer};
+ghost use Rattle.probe.specs.Probe.{packed, packedChecked, packedCheck, packedFound, packedImported, packedExported};
 use catalogue::Checked;
 use catalogue::Found;
+use exporting::Exported;
+use importing::Imported;
+use records::PlaceList;
 use records::Refusal;
 
 // The whole of `src` to `dst` where they are as long; else nothing.
@@ -65,17 +71,16 @@ fn wide(x: usize) -> u64
     x as u64
 }
 
-fn pack(number: u8, place: usize, second: usize) -> u64
-    ensures { λ r. ⌜ r ≡ number * 4294967296 + place % 65536 * 65536 + second % 65536 ⌝ }
+fn pack(number: u8, places: PlaceList) -> u64
+    ensures { λ r. ⌜ r ≡ number * 4294967296 + places .first % 65536 * 65536 + places .second % 65536 ⌝ }
 {
-    number as u64 * 4294967296 + wide(place) % 65536 * 65536 + wide(second) % 65536
+    number as u64 * 4294967296 + wide(places.first) % 65536 * 65536 + wide(places.second) % 65536
 }
 
 fn pack_refusal(x: Refusal) -> u64
     ensures { λ r. ⌜ r ≡ packed x ⌝ }
 {
-    let places = records::named(x);
-    pack(records::number(x), places.first, places.second)
+    pack(records::number(x), records::named(x))
 }
 
 // How many pairs were compared, above the number of an answer.
@@ -131,4 +136,40 @@ pub extern "C" fn probe_list(s: &[u8], text: &mut [u8; 15898]) -> usize
     ensures { λ n. ⌜ Listed oldKind (now (s .entry)) (now (text .entry)) (now (text .exit)) n ⌝ }
 {
     listing::list(s, text)
+}
+
+fn pack_imported(i: Imported) -> u64
+    ensures { λ r. ⌜ r ≡ packedImported i ⌝ }
+{
+    match i {
+        Imported::Good(n) => wide(n),
+        Imported::Refused(x) => pack(importing::number(x), importing::named(x)),
+    }
+}
+
+// The import of a text, with the catalogue from the start of the buffer on.
+#[no_mangle]
+pub extern "C" fn probe_import(s: &[u8], catalogue: &mut [u8; 10752]) -> u64
+    ensures { λ r. ⌜ (r ≡ packedImported (importOf (now (s .entry)))) × (now (catalogue .exit) ≡ leftBy (importOf (now (s .entry))) (resultOf (now (s .entry))) (now (catalogue .entry))) ⌝ }
+{
+    let i = importing::import(s, catalogue);
+    pack_imported(i)
+}
+
+fn pack_exported(e: Exported) -> u64
+    ensures { λ r. ⌜ r ≡ packedExported e ⌝ }
+{
+    match e {
+        Exported::Text(n) => wide(n),
+        Exported::Not(x) => pack_refusal(x),
+    }
+}
+
+// The export of a catalogue, with the text from the start of the buffer on.
+#[no_mangle]
+pub extern "C" fn probe_export(s: &[u8], text: &mut [u8; 23552]) -> u64
+    ensures { λ r. ⌜ (r ≡ packedExported (exportAnswer (length (exportOf (now (s .entry)))) (checkOf oldKind (now (s .entry))))) × (now (text .exit) ≡ put 0 (exportOf (now (s .entry))) (now (text .entry))) ⌝ }
+{
+    let e = exporting::export(s, text);
+    pack_exported(e)
 }

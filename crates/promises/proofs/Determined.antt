@@ -12,6 +12,9 @@ use Rattle.refusals.specs.declared.Answer.{Answer}
 use Rattle.settings.specs.declared.Flags.{Flags}
 use Rattle.settings.specs.declared.TraceAnswer.{TraceAnswer}
 use Rattle.text.specs.Inner.{Written}
+use Rattle.sheet_line.specs.declared.LineAnswer.{LineAnswer}
+use Rattle.importing.specs.declared.Imported.{Imported}
+use Rattle.exporting.specs.declared.Exported.{Exported}
 use Rattle.records.specs.declared.Kind.{Kind}
 use Rattle.records.specs.declared.First.{First}
 use Rattle.records.specs.declared.PlaceList.{PlaceList}
@@ -111,6 +114,52 @@ use Rattle.text.proofs.decimal.Kinds as text-decimal
 use Rattle.text.proofs.decimal.Reads as text-decimal-promise
 use Rattle.text.proofs.hex.Kinds as text-hex
 use Rattle.text.proofs.hex.Reads as text-hex-promise
+use Rattle.records.proofs.one_place.Kinds as records-one-place
+use Rattle.records.proofs.one_place.Reads as records-one-place-promise
+use Rattle.split.proofs.place.Kinds as split-place
+use Rattle.split.proofs.place.Reads as split-place-promise
+use Rattle.split.proofs.from.Kinds as split-from
+use Rattle.split.proofs.from.Reads as split-from-promise
+use Rattle.split.proofs.before.Kinds as split-before
+use Rattle.split.proofs.before.Reads as split-before-promise
+use Rattle.split.proofs.behind.Kinds as split-behind
+use Rattle.split.proofs.behind.Reads as split-behind-promise
+use Rattle.split.proofs.begins.Kinds as split-begins
+use Rattle.split.proofs.begins.Reads as split-begins-promise
+use Rattle.digits.proofs.is_number.Kinds as digits-is-number
+use Rattle.digits.proofs.is_number.Reads as digits-is-number-promise
+use Rattle.digits.proofs.value.Kinds as digits-value
+use Rattle.digits.proofs.value.Reads as digits-value-promise
+use Rattle.digits.proofs.is_label.Kinds as digits-is-label
+use Rattle.digits.proofs.is_label.Reads as digits-is-label-promise
+use Rattle.digits.proofs.label.Kinds as digits-label
+use Rattle.digits.proofs.label.Reads as digits-label-promise
+use Rattle.quotes.proofs.behind.Kinds as quotes-behind
+use Rattle.quotes.proofs.behind.Reads as quotes-behind-promise
+use Rattle.quotes.proofs.count.Kinds as quotes-count
+use Rattle.quotes.proofs.count.Reads as quotes-count-promise
+use Rattle.quotes.proofs.characters.Kinds as quotes-characters
+use Rattle.quotes.proofs.characters.Reads as quotes-characters-promise
+use Rattle.quotes.proofs.double.Kinds as quotes-double
+use Rattle.quotes.proofs.double.Reads as quotes-double-promise
+use Rattle.record_line.proofs.lines.Kinds as record-line-lines
+use Rattle.record_line.proofs.lines.Reads as record-line-lines-promise
+use Rattle.refusal_line.proofs.write.Kinds as refusal-line-write
+use Rattle.refusal_line.proofs.write.Reads as refusal-line-write-promise
+use Rattle.sheet_line.proofs.number.Kinds as sheet-line-number
+use Rattle.sheet_line.proofs.number.Reads as sheet-line-number-promise
+use Rattle.sheet_line.proofs.answer.Kinds as sheet-line-answer
+use Rattle.sheet_line.proofs.answer.Reads as sheet-line-answer-promise
+use Rattle.sheet_line.proofs.record.Kinds as sheet-line-record
+use Rattle.sheet_line.proofs.record.Reads as sheet-line-record-promise
+use Rattle.importing.proofs.number.Kinds as importing-number
+use Rattle.importing.proofs.number.Reads as importing-number-promise
+use Rattle.importing.proofs.named.Kinds as importing-named
+use Rattle.importing.proofs.named.Reads as importing-named-promise
+use Rattle.importing.proofs.import.Kinds as importing-import
+use Rattle.importing.proofs.import.Reads as importing-import-promise
+use Rattle.exporting.proofs.export.Kinds as exporting-export
+use Rattle.exporting.proofs.export.Reads as exporting-export-promise
 use Rattle.listing.proofs.list.Kinds as listing-list
 use Rattle.listing.proofs.list.Reads as listing-list-promise
 use Rattle.probe.proofs.probe_copy.Kinds as probe-copy
@@ -127,6 +176,10 @@ use Rattle.probe.proofs.probe_check.Kinds as probe-check
 use Rattle.probe.proofs.probe_check.Reads as probe-check-promise
 use Rattle.probe.proofs.probe_lookup.Kinds as probe-lookup
 use Rattle.probe.proofs.probe_lookup.Reads as probe-lookup-promise
+use Rattle.probe.proofs.probe_import.Kinds as probe-import
+use Rattle.probe.proofs.probe_import.Reads as probe-import-promise
+use Rattle.probe.proofs.probe_export.Kinds as probe-export
+use Rattle.probe.proofs.probe_export.Reads as probe-export-promise
 use Rattle.probe.proofs.probe_list.Kinds as probe-list
 use Rattle.probe.proofs.probe_list.Reads as probe-list-promise
 
@@ -243,6 +296,9 @@ card-word-reading-determined κs a x y s t p q = p ∙ sym q
 pub card-settings-check-determined : Determines {O = CardRefusal} 1 card-settings-check.ps card-settings-check.r card-settings-check-promise.Post (λ κs r e. r)
 card-settings-check-determined κs a x y s t p q = p ∙ sym q
 
+pub records-one-place-determined : Determines {O = PlaceList} 0 records-one-place.ps records-one-place.r records-one-place-promise.Post (λ κs r e. r)
+records-one-place-determined κs a x y s t p q = p ∙ sym q
+
 -- ---- records: what is read of one, the bytes of the part that is handed back
 
 pub records-old-kind-determined : Determines {O = Kind} 0 records-old-kind.ps records-old-kind.r records-old-kind-promise.Post (λ κs r e. r)
@@ -259,6 +315,55 @@ records-fault-determined κs a x y s t p q = p ∙ sym q
 
 pub records-circuit-determined : Determines {O = ℕ} 1 records-circuit.ps records-circuit.r records-circuit-promise.Post (λ κs r e. r)
 records-circuit-determined κs a x y s t p q = p ∙ sym q
+
+-- ---- bytes parted, digits and quotes read: numbers, tests, and the bytes of the part that is handed back
+
+pub split-place-determined : Determines {O = ℕ} 1 split-place.ps split-place.r split-place-promise.Post (λ κs r e. r)
+split-place-determined κs a x y s t p q = p .0 ∙ sym (q .0)
+
+pub split-from-determined : Determines {O = List ℕ} 1 split-from.ps split-from.r split-from-promise.Post (λ κs r e. now r)
+split-from-determined κs a x y s t p q = p ∙ sym q
+
+pub split-before-determined : Determines {O = List ℕ} 1 split-before.ps split-before.r split-before-promise.Post (λ κs r e. now r)
+split-before-determined κs a x y s t p q = p ∙ sym q
+
+pub split-behind-determined : Determines {O = List ℕ} 1 split-behind.ps split-behind.r split-behind-promise.Post (λ κs r e. now r)
+split-behind-determined κs a x y s t p q = p ∙ sym q
+
+pub split-begins-determined : Determines {O = Bool} 1 split-begins.ps split-begins.r split-begins-promise.Post (λ κs r e. r)
+split-begins-determined κs a x y s t p q = p ∙ sym q
+
+pub digits-is-number-determined : Determines {O = Bool} 1 digits-is-number.ps digits-is-number.r digits-is-number-promise.Post (λ κs r e. r)
+digits-is-number-determined κs a x y s t p q = p ∙ sym q
+
+pub digits-value-determined : Determines {O = ℕ} 1 digits-value.ps digits-value.r digits-value-promise.Post (λ κs r e. r)
+digits-value-determined κs a x y s t p q = p .0 ∙ sym (q .0)
+
+pub digits-is-label-determined : Determines {O = Bool} 1 digits-is-label.ps digits-is-label.r digits-is-label-promise.Post (λ κs r e. r)
+digits-is-label-determined κs a x y s t p q = p ∙ sym q
+
+pub digits-label-determined : Determines {O = ℕ} 1 digits-label.ps digits-label.r digits-label-promise.Post (λ κs r e. r)
+digits-label-determined κs a x y s t p q = p ∙ sym q
+
+pub quotes-behind-determined : Determines {O = List ℕ} 1 quotes-behind.ps quotes-behind.r quotes-behind-promise.Post (λ κs r e. now r)
+quotes-behind-determined κs a x y s t p q = p ∙ sym q
+
+pub quotes-count-determined : Determines {O = ℕ} 1 quotes-count.ps quotes-count.r quotes-count-promise.Post (λ κs r e. r)
+quotes-count-determined κs a x y s t p q = p ∙ sym q
+
+-- ---- a line of a spreadsheet, and the import's refusals
+
+pub sheet-line-number-determined : Determines {O = ℕ} 0 sheet-line-number.ps sheet-line-number.r sheet-line-number-promise.Post (λ κs r e. r)
+sheet-line-number-determined κs a x y s t p q = p ∙ sym q
+
+pub sheet-line-answer-determined : Determines {O = LineAnswer} 1 sheet-line-answer.ps sheet-line-answer.r sheet-line-answer-promise.Post (λ κs r e. r)
+sheet-line-answer-determined κs a x y s t p q = p ∙ sym q
+
+pub importing-number-determined : Determines {O = ℕ} 0 importing-number.ps importing-number.r importing-number-promise.Post (λ κs r e. r)
+importing-number-determined κs a x y s t p q = p ∙ sym q
+
+pub importing-named-determined : Determines {O = PlaceList} 0 importing-named.ps importing-named.r importing-named-promise.Post (λ κs r e. r)
+importing-named-determined κs a x y s t p q = p ∙ sym q
 
 -- ---- lent buffers: every byte of them. A parameter's list at exit stands at its place among the parameters
 
@@ -301,6 +406,34 @@ text-decimal-determined κs a x y s t p q = written-same p q
 pub text-hex-determined : Determines {O = Left} 1 text-hex.ps text-hex.r text-hex-promise.Post (λ κs r e. record { answer = r; buffer = now (e .0) })
 text-hex-determined κs a x y s t p q = written-same p q
 
+pub quotes-characters-determined : Determines {O = Left} 2 quotes-characters.ps quotes-characters.r quotes-characters-promise.Post (λ κs r e. record { answer = r; buffer = now (e .0) })
+quotes-characters-determined κs a x y s t p q = written-same p q
+
+pub quotes-double-determined : Determines {O = Left} 2 quotes-double.ps quotes-double.r quotes-double-promise.Post (λ κs r e. record { answer = r; buffer = now (e .0) })
+quotes-double-determined κs a x y s t p q = written-same (p .0) (q .0)
+
+pub record-line-lines-determined : Determines {O = Left} 2 record-line-lines.ps record-line-lines.r record-line-lines-promise.Post (λ κs r e. record { answer = r; buffer = now (e .1 .1 .0) })
+record-line-lines-determined κs a x y s t p q = written-same (p .written) (q .written)
+
+pub refusal-line-write-determined : Determines {O = Left} 1 refusal-line-write.ps refusal-line-write.r refusal-line-write-promise.Post (λ κs r e. record { answer = r; buffer = now (e .0) })
+refusal-line-write-determined κs a x y s t p q = written-same (p .written) (q .written)
+
+pub sheet-line-record-determined : Determines {O = Left} 2 sheet-line-record.ps sheet-line-record.r sheet-line-record-promise.Post (λ κs r e. record { answer = r; buffer = now (e .0) })
+sheet-line-record-determined κs a x y s t p q = written-same p q
+
+-- the import and the export: the answer, and every byte of the buffer
+pub importing-import-determined : Determines {O = Imported} 2 importing-import.ps importing-import.r importing-import-promise.Post (λ κs r e. r)
+importing-import-determined κs a x y s t p q = p .answer-is ∙ sym (q .answer-is)
+
+pub importing-import-buffer-determined : Determines {O = List ℕ} 2 importing-import.ps importing-import.r importing-import-promise.Post (λ κs r e. now (e .1 .0))
+importing-import-buffer-determined κs a x y s t p q = p .now-is ∙ sym (q .now-is)
+
+pub exporting-export-determined : Determines {O = Exported} 2 exporting-export.ps exporting-export.r exporting-export-promise.Post (λ κs r e. r)
+exporting-export-determined κs a x y s t p q = p .answer-is ∙ sym (q .answer-is)
+
+pub exporting-export-buffer-determined : Determines {O = List ℕ} 2 exporting-export.ps exporting-export.r exporting-export-promise.Post (λ κs r e. now (e .1 .0))
+exporting-export-buffer-determined κs a x y s t p q = p .now-is ∙ sym (q .now-is)
+
 pub listing-list-determined : Determines {O = Left} 2 listing-list.ps listing-list.r listing-list-promise.Post (λ κs r e. record { answer = r; buffer = now (e .1 .0) })
 listing-list-determined κs a x y s t p q = left-same (p .length-is ∙ sym (q .length-is)) (p .now-is ∙ sym (q .now-is))
 
@@ -329,6 +462,12 @@ probe-copy-buffer-determined κs a x y s t p q = p .1 ∙ sym (q .1)
 
 pub probe-lookup-determined : Determines {O = Left} 2 probe-lookup.ps probe-lookup.r probe-lookup-promise.Post (λ κs r e. record { answer = r; buffer = now (e .1 .1 .0) })
 probe-lookup-determined κs a x y s t p q = left-same (p .0 ∙ sym (q .0)) (p .1 ∙ sym (q .1))
+
+pub probe-import-determined : Determines {O = Left} 2 probe-import.ps probe-import.r probe-import-promise.Post (λ κs r e. record { answer = r; buffer = now (e .1 .0) })
+probe-import-determined κs a x y s t p q = left-same (p .0 ∙ sym (q .0)) (p .1 ∙ sym (q .1))
+
+pub probe-export-determined : Determines {O = Left} 2 probe-export.ps probe-export.r probe-export-promise.Post (λ κs r e. record { answer = r; buffer = now (e .1 .0) })
+probe-export-determined κs a x y s t p q = left-same (p .0 ∙ sym (q .0)) (p .1 ∙ sym (q .1))
 
 pub probe-list-determined : Determines {O = Left} 2 probe-list.ps probe-list.r probe-list-promise.Post (λ κs r e. record { answer = r; buffer = now (e .1 .0) })
 probe-list-determined κs a x y s t p q = left-same (p .length-is ∙ sym (q .length-is)) (p .now-is ∙ sym (q .now-is))

@@ -19,8 +19,8 @@ use Rattle.records.specs.declared.Refusal.the-variants.{Length, Mark, Ci
 
 -- ---- the rows
 
--- the record's place goes between the number and the places of the part
-behind : ℕ → List ℕ → List ℕ
+-- the place of a record, or of a line, goes between the number and the places of the part
+unfoldable pub behind : ℕ → List ℕ → List ℕ
 behind place [] = []
 behind place (n ∷ ps) = n ∷ place ∷ ps
 

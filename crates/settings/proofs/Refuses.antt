@@ -12,6 +12,7 @@ use Rattle.refusals.specs.declared.TraceFault.the-variants.{Below, Above, Space
 use Rattle.refusals.specs.declared.Answer.{Answer}
 use Rattle.refusals.specs.declared.Answer.the-variants.{Done, Refused}
 use Rattle.refusals.specs.declared.Refusal.the-variants.{Label, Trace, State}
+use Rattle.refusals.proofs.Joined.{rows-none}
 use Rattle.refusals.proofs.Wrong.{due-none, number-none, Numbered, traceSays, numbered-row, numbered-last, numbered-both, numbered-rows}
 use Rattle.settings.specs.declared.Settings.{Settings}
 use Rattle.settings.specs.declared.TraceAnswer.{TraceAnswer}
@@ -30,11 +31,6 @@ rows-pass : (fs : List (Fault TraceFault)) → Passes ≡ judged fs → fs ≡ [
 unfolding judged
 rows-pass [] e = refl
 rows-pass (f ∷ fs) e = let z : _≡_ {A = ℕ} 0 1 = cc in absurd (omega arith)
-
-rows-none : (fs : List (Fault TraceFault)) → rowsAt [] Trace fs ≡ [] → fs ≡ []
-unfolding rowsAt
-rows-none [] e = refl
-rows-none (f ∷ fs) e = let z : _≡_ {A = ℕ} 0 1 = cc in absurd (omega arith)
 
 -- a trace that passes has nothing wrong with it
 pub passes-none : (trace : List ℕ) → Passes ≡ judged (traceFaults trace) → traceFaults trace ≡ []
@@ -110,7 +106,7 @@ fine-label e h = due-none (labelRefused (e .label)) _ _ h .0
 
 pub fine-trace : (e : Settings) → settingsFaults e ≡ [] → traceFaults (e .trace) ≡ []
 unfolding settingsFaults pathFaults
-fine-trace e h = rows-none (traceFaults (e .trace)) (due-none (labelRefused (e .label)) _ _ h .1)
+fine-trace e h = rows-none [] Trace (traceFaults (e .trace)) (due-none (labelRefused (e .label)) _ _ h .1)
 
 -- and where neither is, nothing is wrong
 pub path-fine : (label : ℕ) (trace : List ℕ) → labelRefused label ≡ false → traceFaults trace ≡ [] → pathFaults label trace ≡ []

@@ -20,8 +20,14 @@ good-requires c κs = (search old-serves, (search good-records, search good-room
 enum-known-checked-2 : tie.Need-enum-known-checked-2
 enum-known-checked-2 c = search needs
 
-refusal-line-requires : tie.Need-refusal-line-requires
-refusal-line-requires c κs = search needs
+number-requires : tie.Need-number-requires
+number-requires c κs = search needs
+
+named-requires : tie.Need-named-requires
+named-requires c κs = search needs
+
+write-requires : tie.Need-write-requires
+write-requires c κs = search needs
 
 returns : tie.Need-returns
 returns c = search good-listed
@@ -38,6 +44,8 @@ list-spec =
     old-kind-requires
     good-requires
     enum-known-checked-2
-    refusal-line-requires
+    number-requires
+    named-requires
+    write-requires
     returns
     returns-2)

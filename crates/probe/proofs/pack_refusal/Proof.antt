@@ -17,4 +17,4 @@ returns : tie.Need-returns
 returns c = search packed-is
 
 pub pack-refusal-spec : {M : Type 1} → statement M
-pack-refusal-spec = tie.close (tie.spec named-requires number-requires pack-requires returns)
+pack-refusal-spec = tie.close (tie.spec number-requires named-requires pack-requires returns)

@@ -1,0 +1,4 @@
+pub mod Walk
+pub mod Faulty
+pub mod Making
+pub mod Answers

@@ -1,0 +1,46 @@
+-- `importing::number` meets its contract: a number for each case. Assumes nothing.
+use borrow.Author.Needs.{needs}
+use Rattle.importing.specs.Import.{importNumber}
+use Rattle.importing.proofs.Answers.{number-as}
+use Rattle.importing.proofs.number.Statement.{statement}
+use Rattle.importing.proofs.number.Tie as tie
+
+enum-told : tie.Need-enum-told
+enum-told c = search needs
+
+enum-known-x : tie.Need-enum-known-x
+enum-known-x c = search needs
+
+number-requires : tie.Need-number-requires
+number-requires c κs = search needs
+
+enum-known-x-2 : tie.Need-enum-known-x-2
+enum-known-x-2 c = search needs
+
+number-requires-2 : tie.Need-number-requires-2
+number-requires-2 c κs = search needs
+
+returns : tie.Need-returns
+unfolding importNumber
+returns c = simp (c .enum-told .given .1)
+
+returns-2 : tie.Need-returns-2
+unfolding importNumber
+returns-2 c = search number-as
+
+returns-3 : tie.Need-returns-3
+unfolding importNumber
+returns-3 c = search number-as
+
+pub number-spec : {M : Type 1} → statement M
+number-spec =
+    tie.close
+    (tie.spec
+    enum-told
+    enum-known-x
+    number-requires
+    enum-known-x-2
+    number-requires-2
+    returns
+    returns-2
+    returns-3)

@@ -1,0 +1,2 @@
+pub mod RecordLine
+pub mod Inner

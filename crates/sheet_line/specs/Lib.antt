@@ -1,0 +1,3 @@
+pub mod Grammar
+pub mod Line
+pub mod Inner

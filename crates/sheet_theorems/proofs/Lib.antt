@@ -1,0 +1,11 @@
+pub mod Parts
+pub mod Grammar
+pub mod Numbers
+pub mod Record
+pub mod Good
+pub mod Text
+pub mod Accepted
+pub mod Calls
+pub mod Long
+pub mod Never
+pub mod Examples
