@@ -327,8 +327,16 @@ impl Bench {
                 // Characters from 20 to 7E only.
                 return String::from_utf8_lossy(&second::listing(bytes)).into_owned();
             }
-            Command::Import(ref text) => return made("import", second::import(text)),
-            Command::Export(ref bytes) => return made("export", second::export(bytes)),
+            Command::Import(ref text) => {
+                let answer = second::import(text);
+                coverage::imported(text, &answer, note);
+                return made("import", answer);
+            }
+            Command::Export(ref bytes) => {
+                let answer = second::export(bytes);
+                coverage::exported(bytes, &answer, note);
+                return made("export", answer);
+            }
             Command::Parity(ref bytes) => {
                 note("parity.asked");
                 return format!("parity {:02X}\n", second::parity(bytes));
