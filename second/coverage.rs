@@ -148,11 +148,13 @@ pub const NAMES: &[&str] = &[
     "import.15-in-line-1", "import.15-in-a-later-line", "import.15-in-line-512",
     "import.16-in-line-1", "import.16-in-a-later-line", "import.16-in-line-512",
     "import.17-in-line-1", "import.17-in-a-later-line", "import.17-in-line-512",
-    "import.18-by-513-LF", "import.18-by-bytes-behind-512-LF", "import.18-of-more-than-513", "import.18-before-15",
+    "import.18-by-513-LF", "import.18-by-bytes-behind-512-LF", "import.18-of-more-than-513", "import.18-of-empty-lines", "import.18-before-15",
     "import.18-before-16", "import.18-before-17",
     // A line that is malformed by one thing alone
-    "import.15-line-of-81", "import.15-line-above-81", "import.15-no-LF", "import.15-no-LF-at-line-512", "import.15-no-LF-behind-CR-alone",
+    "import.15-line-of-81", "import.15-line-above-81", "import.15-line-above-80-of-quotes", "import.15-no-LF", "import.15-no-LF-at-line-512", "import.15-no-LF-behind-CR-alone",
     "import.15-empty-line", "import.15-CR-alone", "import.15-CR-before-LF", "import.15-blank-at-the-start", "import.15-blank-at-the-end",
+    "import.15-mark-at-the-start", "import.15-number-signed", "import.15-flags-hex",
+    "import.15-number-quoted", "import.15-label-quoted", "import.15-flags-quoted",
     "import.15-number-empty", "import.15-number-of-5", "import.15-number-2F", "import.15-number-3A", "import.15-number-blank",
     "import.15-label-empty", "import.15-label-of-1", "import.15-label-of-3",
     "import.15-label-2F-first", "import.15-label-3A-first", "import.15-label-40-first",
@@ -1173,6 +1175,7 @@ pub fn imported(text: &[u8], answer: &Result<Vec<u8>, Refusal>, note: Note) {
                     (ended == 513 && lines.len() == 513, "import.18-by-513-LF"),
                     (ended == 512, "import.18-by-bytes-behind-512-LF"),
                     (lines.len() > 513, "import.18-of-more-than-513"),
+                    (lines.iter().all(|line| line.bytes.is_empty()), "import.18-of-empty-lines"),
                     (any(15) && ended == lines.len(), "import.18-before-15"),
                     (any(16), "import.18-before-16"),
                     (any(17), "import.18-before-17"),
@@ -1283,12 +1286,14 @@ fn line_malformed(line: &SheetLine, place: usize, note: Note) {
     let (number, label, flags) = (line.field(0), line.field(1), line.field(3));
     // It has as many digits as it may and one character that is none.
     let has = |field: &[u8], most: usize, byte: u8| field.len() <= most && field.contains(&byte);
+    let is_quoted = |field: &[u8]| matches!(field, [b'"', .., b'"']);
     let count = line.fields.len();
     let quotes = number_of(b'"', trace);
     each(
         [
             (by(0) && bytes.len() == 81, "import.15-line-of-81"),
             (by(0) && bytes.len() > 81, "import.15-line-above-81"),
+            (by(0) && bytes.len() - number_of(b'"', bytes) / 2 < 80, "import.15-line-above-80-of-quotes"),
             (by(1), "import.15-no-LF"),
             (by(1) && place == 512, "import.15-no-LF-at-line-512"),
             (by(2) && count < 4 && !line.unquoted(), "import.15-fewer-fields"),
@@ -1303,6 +1308,12 @@ fn line_malformed(line: &SheetLine, place: usize, note: Note) {
             (by(3) && has(number, 4, 0x3A), "import.15-number-3A"),
             (by(3) && has(number, 4, b' '), "import.15-number-blank"),
             (by(3) && bytes.starts_with(b" "), "import.15-blank-at-the-start"),
+            (by(3) && place == 1 && bytes.starts_with(MARK), "import.15-mark-at-the-start"),
+            (by(3) && number.len() < 5 && matches!(number, [b'+' | b'-', b'0'..=b'9', ..]), "import.15-number-signed"),
+            (by(3) && is_quoted(number), "import.15-number-quoted"),
+            (by(4) && is_quoted(label), "import.15-label-quoted"),
+            (by(6) && is_quoted(flags), "import.15-flags-quoted"),
+            (by(6) && flags.len() < 3 && !flags.is_empty() && flags.iter().all(u8::is_ascii_hexdigit), "import.15-flags-hex"),
             (by(4) && label.is_empty(), "import.15-label-empty"),
             (by(4) && label.len() == 1, "import.15-label-of-1"),
             (by(4) && label.len() == 3 && label.iter().all(u8::is_ascii_hexdigit), "import.15-label-of-3"),

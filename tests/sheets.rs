@@ -1,7 +1,7 @@
 //! The spreadsheets of a random script: texts to import, good ones and such as
 //! have something wrong near the border of each rule, and catalogues to export.
 
-use super::{quoted, shuffle, Script};
+use super::{quoted, shuffle, Script, MARK};
 use crate::random::Random;
 use crate::second;
 
@@ -14,6 +14,8 @@ enum Sheet {
     Changed,
     Good,
     Export,
+    WrongExport,
+    Bare,
     Long(usize),
     Far(bool),
 }
@@ -39,7 +41,8 @@ impl Spreadsheets {
         left.extend([Sheet::Repeat(None), Sheet::Repeat(Some(EACH_NUMBER[turn % 3])), Sheet::Repeat(Some(IN_RECORD[turn % 7]))]);
         left.extend([Sheet::Changed; 5]);
         left.extend([Sheet::Good; 3]);
-        left.extend([Sheet::Export; 5]);
+        left.extend([Sheet::Export; 4]);
+        left.extend([Sheet::WrongExport, Sheet::Bare]);
         if seed % 2 == 0 {
             left.push(Sheet::Long(turn % 12));
         }
@@ -112,9 +115,13 @@ enum Wrong {
     Return,
     Open,
     OnlyReturn,
+    Mark,
+    NumberSigned,
+    FlagsHex,
+    QuotedOther,
 }
 
-const WRONG: [Wrong; 45] = [
+const WRONG: [Wrong; 49] = [
     Wrong::NumberEmpty,
     Wrong::NumberLong,
     Wrong::NumberOther,
@@ -160,6 +167,10 @@ const WRONG: [Wrong; 45] = [
     Wrong::Return,
     Wrong::Open,
     Wrong::OnlyReturn,
+    Wrong::Mark,
+    Wrong::NumberSigned,
+    Wrong::FlagsHex,
+    Wrong::QuotedOther,
 ];
 
 /// Those that are no fault of the line: the catalogue refuses them.
@@ -300,11 +311,8 @@ impl Script {
             Wrong::UnquotedLong => *trace = bare,
             Wrong::UnquotedOdd => {
                 let (before, behind): (&[u8], &[u8]) =
-                    self.of(&[(b"", b"\""), (b"", b"\"\""), (b"\r", b""), (b"", b"\r"), (b"a\"", b"\""), (b"'", b"'")]);
-                *trace = match self.r.below(3) {
-                    0 => [b" \"", &bare[..4], b"\""].concat(),
-                    _ => [before, &bare[..6], behind].concat(),
-                };
+                    self.in_turn(&[(b"", b"\""), (b" \"", b"\""), (b"\r", b""), (b"a\"", b"\""), (b"", b"\r"), (b"'", b"'")]);
+                *trace = [before, &bare[..4], behind].concat();
             }
             Wrong::UnquotedComma => *trace = [&short[..1], b",", short].concat(),
             Wrong::UnquotedEnd => {
@@ -377,7 +385,11 @@ impl Script {
                 trace.clear();
                 let inside = want - line.bytes().len() + line.end.len();
                 line.fields[2] = match wrong {
-                    Wrong::LongLine => [b"\"", &b"x".repeat(inside - 2)[..], b"\""].concat(),
+                    // of characters, or of quotes, half as many when two are one
+                    Wrong::LongLine => {
+                        let pairs = if self.chance(2) { 0 } else { inside / 2 - 1 };
+                        [b"\"", &b"x".repeat(inside - 2 - 2 * pairs)[..], &b"\"".repeat(2 * pairs)[..], b"\""].concat()
+                    }
                     _ => b"x".repeat(inside),
                 };
                 if self.chance(6) {
@@ -421,6 +433,14 @@ impl Script {
             }
             Wrong::Return => line.end = b"\r\n".to_vec(),
             Wrong::Open => line.end.clear(),
+            Wrong::NumberSigned => line.fields[0] = self.in_turn(&["+7", "-7", "7.", "+700"]).into(),
+            Wrong::FlagsHex => line.fields[3] = self.in_turn(&["F", "a", "0F", "0x"]).into(),
+            Wrong::QuotedOther => {
+                let field = self.in_turn(&[0, 1, 3]);
+                line.fields[field] = quoted(&line.fields[field]);
+            }
+            // the bytes that are dropped before a script
+            Wrong::Mark => drop(line.fields[0].splice(..0, MARK.iter().copied())),
         }
     }
 
@@ -431,6 +451,7 @@ impl Script {
         let mut lines = self.sheet(n);
         let at = match wrong {
             Wrong::Open | Wrong::OnlyReturn if self.r.below(5) > 0 => n - 1,
+            Wrong::Mark => 0,
             _ => self.r.below(n),
         };
         // What is 16 or 17 in the line that no LF ends.
@@ -564,6 +585,23 @@ impl Script {
         }
     }
 
+    /// A catalogue with a fault, each kind in turn.
+    fn export_wrong(&mut self) {
+        let n = self.among(2, 4);
+        let mut bytes = self.records(n);
+        let at = 21 * self.r.below(n);
+        match self.sheets.turn % 9 {
+            kind @ 0..=2 => self.fault(&mut bytes, at, kind),
+            3 => bytes[at + 5 + self.r.below(15)] = self.of(&[0x00, 0x0A, 0x0D, 0x1F]),
+            4 => bytes[at + 5 + self.r.below(15)] = self.of(&[0x7F, 0x80, 0xFF]),
+            5 => bytes[at + 5..at + 20].fill(b' '),
+            6 => self.fault(&mut bytes, at, 4),
+            7 => Self::repeat(&mut bytes, 1, n),
+            _ => bytes.truncate(21 * n - self.among(1, 20)),
+        }
+        self.export(&bytes);
+    }
+
     /// Lines that are short, so that many are not too many bytes.
     fn many_lines(n: usize) -> Vec<SheetLine> {
         (0..n)
@@ -581,7 +619,8 @@ impl Script {
             0..=6 => 512,
             7 | 8 => 511,
             9 => 515,
-            _ => 513,
+            10 => 513,
+            _ => 514,
         };
         let mut lines = Self::many_lines(n);
         let mut behind: &[u8] = b"";
@@ -597,9 +636,8 @@ impl Script {
             8 => behind = b"\n",
             9 | 10 => {}
             _ => {
-                // one of each before it
                 for wrong in EACH_NUMBER {
-                    let at = self.r.below(513);
+                    let at = self.r.below(n);
                     self.spoil(&mut lines[at], wrong);
                 }
             }
@@ -609,6 +647,12 @@ impl Script {
         if let (0, Ok(catalogue)) = (kind, second::import(&text)) {
             self.export(&catalogue);
         }
+    }
+
+    /// Empty lines, about as many as there may be, and what may stand behind them.
+    fn bare_lines(&mut self) {
+        let (n, behind): (usize, &[u8]) = self.in_turn(&[(512, b"x"), (513, b""), (511, b"x"), (514, b""), (512, b""), (600, b"x")]);
+        self.import_text(&[&b"\n".repeat(n)[..], behind].concat());
     }
 
     /// More bytes than there are in any good text: lines of just 80, or no LF at
@@ -653,6 +697,8 @@ impl Script {
             Sheet::Changed => self.changed_sheet(),
             Sheet::Good => self.good_sheet(),
             Sheet::Export => self.export_some(),
+            Sheet::WrongExport => self.export_wrong(),
+            Sheet::Bare => self.bare_lines(),
             Sheet::Long(kind) => self.long_sheet(kind),
             Sheet::Far(lines) => self.far_sheet(lines),
         }
