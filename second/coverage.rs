@@ -148,7 +148,7 @@ pub const NAMES: &[&str] = &[
     "import.15-in-line-1", "import.15-in-a-later-line", "import.15-in-line-512",
     "import.16-in-line-1", "import.16-in-a-later-line", "import.16-in-line-512",
     "import.17-in-line-1", "import.17-in-a-later-line", "import.17-in-line-512",
-    "import.18-by-513-LF", "import.18-by-bytes-behind-512-LF", "import.18-of-more-than-513", "import.18-of-empty-lines", "import.18-before-15",
+    "import.18-by-513-LF", "import.18-by-bytes-behind-512-LF", "import.18-of-more-than-513", "import.18-of-empty-lines", "import.18-before-15", "import.18-before-too-long",
     "import.18-before-16", "import.18-before-17",
     // A line that is malformed by one thing alone
     "import.15-line-of-81", "import.15-line-above-81", "import.15-line-above-80-of-quotes", "import.15-no-LF", "import.15-no-LF-at-line-512", "import.15-no-LF-behind-CR-alone",
@@ -1177,6 +1177,7 @@ pub fn imported(text: &[u8], answer: &Result<Vec<u8>, Refusal>, note: Note) {
                     (lines.len() > 513, "import.18-of-more-than-513"),
                     (lines.iter().all(|line| line.bytes.is_empty()), "import.18-of-empty-lines"),
                     (any(15) && ended == lines.len(), "import.18-before-15"),
+                    (lines.iter().any(|line| line.bytes.len() > 80), "import.18-before-too-long"),
                     (any(16), "import.18-before-16"),
                     (any(17), "import.18-before-17"),
                 ],

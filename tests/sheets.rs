@@ -67,6 +67,14 @@ impl SheetLine {
     }
 }
 
+/// This byte at this place of a field, or at its end where it is shorter.
+fn put(field: &mut Vec<u8>, at: usize, byte: u8) {
+    match field.get_mut(at) {
+        Some(there) => *there = byte,
+        None => field.push(byte),
+    }
+}
+
 /// What can be wrong with a line of a spreadsheet, or only just not.
 #[derive(Clone, Copy)]
 enum Wrong {
@@ -270,8 +278,8 @@ impl Script {
             .collect()
     }
 
-    /// Something wrong in a line that has its four fields; nothing in one that
-    /// has them no more.
+    /// Something wrong in a line that has its four fields, whatever is wrong with
+    /// them already; nothing in one that has them no more.
     fn spoil(&mut self, line: &mut SheetLine, wrong: Wrong) {
         if line.fields.len() != 4 {
             return;
@@ -289,21 +297,21 @@ impl Script {
             Wrong::NumberEmpty => line.fields[0].clear(),
             Wrong::NumberLong => line.fields[0] = self.of(&["10000", "00001", "99999", "01234", "00000", "123456"]).into(),
             Wrong::NumberOther => {
-                let n = line.fields[0].len();
-                line.fields[0][self.r.below(n)] = beside_digits;
+                let at = self.r.below(line.fields[0].len().max(1));
+                put(&mut line.fields[0], at, beside_digits);
             }
             Wrong::NumberZero => line.fields[0] = self.in_turn(&["0", "00", "000", "0000"]).into(),
             Wrong::LabelEmpty => line.fields[1].clear(),
             Wrong::LabelOfOne => drop(line.fields[1].pop()),
             Wrong::LabelOfThree => line.fields[1].push(b'0'),
-            Wrong::LabelFirst => line.fields[1][0] = beside_hex,
-            Wrong::LabelSecond => line.fields[1][1] = beside_hex,
+            Wrong::LabelFirst => put(&mut line.fields[1], 0, beside_hex),
+            Wrong::LabelSecond => put(&mut line.fields[1], 1, beside_hex),
             Wrong::LabelRefused => line.fields[1] = self.in_turn(&["00", "FF", "ff", "fF"]).into(),
             Wrong::FlagsEmpty => line.fields[3].clear(),
             Wrong::FlagsLong => line.fields[3] = self.of(&["000", "001", "015", "100", "999"]).into(),
             Wrong::FlagsOther => {
-                let n = line.fields[3].len();
-                line.fields[3][self.r.below(n)] = beside_digits;
+                let at = self.r.below(line.fields[3].len().max(1));
+                put(&mut line.fields[3], at, beside_digits);
             }
             Wrong::FlagsRefused => line.fields[3] = self.in_turn(&["16", "99", "17", "20"]).into(),
             Wrong::Unquoted => *trace = short.to_vec(),
@@ -377,7 +385,7 @@ impl Script {
                 }
             }
             Wrong::LineFeed => {
-                let at = self.among(1, trace.len() - 1);
+                let at = self.r.below(trace.len().max(1));
                 trace.insert(at, b'\n');
             }
             Wrong::LongLine | Wrong::LongUnquotedLine => {
@@ -394,8 +402,8 @@ impl Script {
                 };
                 if self.chance(6) {
                     // as many bytes, and malformed too
-                    let kind = self.of(&[0, 1, 3]);
-                    line.fields[kind][0] = b'x';
+                    let field = self.of(&[0, 1, 3]);
+                    line.fields[field].fill(b'x');
                 }
             }
             Wrong::FewerFields => {
@@ -649,10 +657,12 @@ impl Script {
         }
     }
 
-    /// Empty lines, about as many as there may be, and what may stand behind them.
+    /// Empty lines, about as many as there may be, and what may stand in the first
+    /// and behind them.
     fn bare_lines(&mut self) {
-        let (n, behind): (usize, &[u8]) = self.in_turn(&[(512, b"x"), (513, b""), (511, b"x"), (514, b""), (512, b""), (600, b"x")]);
-        self.import_text(&[&b"\n".repeat(n)[..], behind].concat());
+        let (first, n, behind): (usize, usize, &[u8]) =
+            self.in_turn(&[(0, 512, b"x"), (0, 513, b""), (0, 511, b"x"), (81, 514, b""), (0, 512, b""), (100, 512, b"x")]);
+        self.import_text(&[&b"x".repeat(first)[..], &b"\n".repeat(n), behind].concat());
     }
 
     /// More bytes than there are in any good text: lines of just 80, or no LF at

@@ -234,14 +234,17 @@ fn many(n: usize) -> Vec<u8> {
 
 fn imports(r: &mut Random, t: &mut Tally, lent: &mut Lent) {
     import(t, lent, b"");
+    import(t, lent, b"\xEF\xBB\xBF1,12,\"a\",0\n");
     for round in 0..8000 {
         let n = r.below(7);
         let one_in = [0, 4, 10, 20, 40][round % 5];
         let mut text = text(r, n, one_in);
-        // a line once more, so that a trace is
-        if r.below(8) == 0 {
+        // the first line once more, before or behind all, so that a trace is
+        if r.below(6) == 0 {
             if let Some(end) = text.iter().position(|byte| *byte == b'\n') {
-                text.extend_from_within(..=end);
+                let at = [0, text.len()][r.below(2)];
+                let line = text[..=end].to_vec();
+                text.splice(at..at, line);
             }
         }
         if r.below(4) == 0 {
