@@ -546,6 +546,63 @@ fn pairs_of(n: usize, which: &str, trace: fn(usize) -> [u8; 15]) {
     }
 }
 
+/// Text in and out. Both check the catalogue, all of whose pairs are compared, so the check alone stands beside them. The fast one compares a number for each
+/// trace before it compares traces.
+fn spreadsheets() {
+    let catalogue = RefCell::new(Box::new([0u8; 10_752]));
+    for n in [1usize, 64, 512] {
+        let b = catalogue_of(n, numbered);
+        let text = second::export(&b).expect("a text");
+        assert!(proved::import(&text, &mut catalogue.borrow_mut()) == n as u64 && catalogue.borrow()[..b.len()] == b);
+        assert!(fast::import(&text, &mut catalogue.borrow_mut()) == Ok(n) && catalogue.borrow()[..b.len()] == b);
+        let calls = (200 * 64 / (n * n)).clamp(2, 400);
+        let times = show_all(
+            &format!("import, {n} line{}, {} bytes", if n == 1 { "" } else { "s" }, text.len()),
+            if n < 256 { TURNS } else { 100 },
+            &mut [
+                ("proved", &mut || once(calls, &mut || {
+                    black_box(unsafe { c::probe_import(black_box(text.as_ptr()), text.len(), &mut **catalogue.borrow_mut()) });
+                })),
+                ("second program, fast", &mut || once(calls, &mut || {
+                    let _ = black_box(fast::import(black_box(&text), &mut catalogue.borrow_mut()));
+                })),
+                ("second program", &mut || once(calls, &mut || {
+                    let _ = black_box(second::import(black_box(&text)));
+                })),
+                ("proved, the check of the result alone", &mut || once(calls, &mut || {
+                    black_box(unsafe { c::probe_check(black_box(b.as_ptr()), b.len()) });
+                })),
+            ],
+        );
+        println!("    {:<44} {:>11.1} ns a line, {:.1} ns of them without the check", "proved", times[0] / n as f64, (times[0] - times[3]) / n as f64);
+    }
+    let b = catalogue_of(512, numbered);
+    let text = RefCell::new(Box::new([0u8; 23_552]));
+    let want = second::export(&b).expect("a text");
+    let length = proved::export(&b, &mut text.borrow_mut()) as usize;
+    assert!(text.borrow()[..length] == want);
+    let length = fast::export(&b, &mut text.borrow_mut()).expect("a text");
+    assert!(text.borrow()[..length] == want);
+    show(
+        &format!("export, 512 records, {} bytes", want.len()),
+        100,
+        &mut [
+            ("proved", &mut || once(2, &mut || {
+                black_box(unsafe { c::probe_export(black_box(b.as_ptr()), b.len(), &mut **text.borrow_mut()) });
+            })),
+            ("second program, fast", &mut || once(2, &mut || {
+                let _ = black_box(fast::export(black_box(&b), &mut text.borrow_mut()));
+            })),
+            ("second program", &mut || once(2, &mut || {
+                let _ = black_box(second::export(black_box(&b)));
+            })),
+            ("proved, the check alone", &mut || once(2, &mut || {
+                black_box(unsafe { c::probe_check(black_box(b.as_ptr()), b.len()) });
+            })),
+        ],
+    );
+}
+
 fn stacks() {
     let container = bytes(CONTAINER, 13);
     let mut room = vec![0u8; UNIT];
@@ -590,6 +647,15 @@ fn stacks() {
     stack::show("listing", &mut || {
         black_box(unsafe { c::probe_list(catalogue.as_ptr(), catalogue.len(), &mut *list) });
     });
+    let text = second::export(&catalogue).expect("a text");
+    let mut records = Box::new([0u8; 10_752]);
+    stack::show("import", &mut || {
+        black_box(unsafe { c::probe_import(text.as_ptr(), text.len(), &mut *records) });
+    });
+    let mut written = Box::new([0u8; 23_552]);
+    stack::show("export", &mut || {
+        black_box(unsafe { c::probe_export(catalogue.as_ptr(), catalogue.len(), &mut *written) });
+    });
 }
 
 fn main() {
@@ -606,5 +672,6 @@ fn main() {
     sources();
     parts();
     catalogues();
+    spreadsheets();
     stacks();
 }

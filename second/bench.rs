@@ -98,6 +98,8 @@ pub enum Command {
     Cat(Vec<u8>),
     Lookup(u32, Vec<u8>),
     List(Vec<u8>),
+    Import(Vec<u8>),
+    Export(Vec<u8>),
     Parity(Vec<u8>),
     Check(Vec<u8>),
     Read(Vec<u8>),
@@ -167,6 +169,8 @@ fn command(name: &[u8], words: &[&[u8]], length: usize) -> Option<Command> {
         (b"cat", words) => Command::Cat(rest(words)?),
         (b"lookup", [circuit, words @ ..]) => Command::Lookup(number(circuit, 999_999_999)?, rest(words)?),
         (b"list", words) => Command::List(rest(words)?),
+        (b"import", words) => Command::Import(rest(words)?),
+        (b"export", words) => Command::Export(rest(words)?),
         (b"parity", words) => Command::Parity(rest(words)?),
         (b"check", words) => Command::Check(rest(words)?),
         (b"read", words) => Command::Read(rest(words)?),
@@ -323,6 +327,16 @@ impl Bench {
                 // Characters from 20 to 7E only.
                 return String::from_utf8_lossy(&second::listing(bytes)).into_owned();
             }
+            Command::Import(ref text) => {
+                let answer = second::import(text);
+                coverage::imported(text, &answer, note);
+                return made("import", answer);
+            }
+            Command::Export(ref bytes) => {
+                let answer = second::export(bytes);
+                coverage::exported(bytes, &answer, note);
+                return made("export", answer);
+            }
             Command::Parity(ref bytes) => {
                 note("parity.asked");
                 return format!("parity {:02X}\n", second::parity(bytes));
@@ -478,6 +492,16 @@ fn lookup(circuit: u32, bytes: &[u8], note: Note) -> String {
     match answer {
         Ok(record) => format!("found {:02X} {} {}\n", record.label, hex(&record.trace), record.flags),
         Err(refusal) => format!("lookup refused {refusal}\n"),
+    }
+}
+
+/// The bytes that this command makes, with no blank where there are none, or its
+/// refusal.
+fn made(name: &str, answer: Result<Vec<u8>, Refusal>) -> String {
+    match answer {
+        Ok(bytes) if bytes.is_empty() => format!("{name} ok\n"),
+        Ok(bytes) => format!("{name} ok {}\n", hex(&bytes)),
+        Err(refusal) => format!("{name} refused {refusal}\n"),
     }
 }
 

@@ -141,6 +141,65 @@ pub const NAMES: &[&str] = &[
     "lookup.found", "lookup.refused-14", "lookup.refused-5", "lookup.refused-20", "lookup.refused-21",
     "lookup.catalogue-refused",
     "list.listed", "list.refused-5", "list.refused-20", "list.refused-21", "list.refused",
+    "import.none", "import.one", "import.some", "import.512", "import.of-an-export", "import.text-above-41472-bytes",
+    "import.refused-15", "import.refused-16", "import.refused-17", "import.refused-18",
+    "import.refused-11", "import.refused-4", "import.refused-5", "import.refused-20", "import.refused-21",
+    "import.refused-12", "import.refused-13",
+    "import.15-in-line-1", "import.15-in-a-later-line", "import.15-in-line-512",
+    "import.16-in-line-1", "import.16-in-a-later-line", "import.16-in-line-512",
+    "import.17-in-line-1", "import.17-in-a-later-line", "import.17-in-line-512",
+    "import.18-by-513-LF", "import.18-by-bytes-behind-512-LF", "import.18-of-more-than-513", "import.18-of-empty-lines", "import.18-before-15", "import.18-before-too-long",
+    "import.18-before-16", "import.18-before-17",
+    // A line that is malformed by one thing alone
+    "import.15-line-of-81", "import.15-line-above-81", "import.15-line-above-80-of-quotes", "import.15-no-LF", "import.15-no-LF-at-line-512", "import.15-no-LF-behind-CR-alone",
+    "import.15-empty-line", "import.15-CR-alone", "import.15-CR-before-LF", "import.15-blank-at-the-start", "import.15-blank-at-the-end",
+    "import.15-mark-at-the-start", "import.15-number-signed", "import.15-flags-hex",
+    "import.15-number-quoted", "import.15-label-quoted", "import.15-flags-quoted",
+    "import.15-number-empty", "import.15-number-of-5", "import.15-number-2F", "import.15-number-3A", "import.15-number-blank",
+    "import.15-label-empty", "import.15-label-of-1", "import.15-label-of-3",
+    "import.15-label-2F-first", "import.15-label-3A-first", "import.15-label-40-first",
+    "import.15-label-47-first", "import.15-label-60-first", "import.15-label-67-first",
+    "import.15-label-2F-second", "import.15-label-3A-second", "import.15-label-40-second",
+    "import.15-label-47-second", "import.15-label-60-second", "import.15-label-67-second",
+    "import.15-flags-empty", "import.15-flags-of-3", "import.15-flags-2F", "import.15-flags-3A", "import.15-flags-blank",
+    "import.15-fewer-fields", "import.15-more-fields", "import.15-comma-at-the-end",
+    "import.15-quote-alone", "import.15-quote-not-closed", "import.15-quote-doubled-at-the-end", "import.15-three-quotes-alone",
+    "import.15-quote-inside", "import.15-blank-behind-the-quote", "import.15-more-behind-the-quote", "import.15-nothing-behind-the-quote",
+    "import.15-unquoted-to-the-end", "import.15-unquoted-with-a-comma",
+    // Its trace
+    "import.16-empty", "import.16-of-15-or-fewer", "import.16-of-more-than-15", "import.16-with-a-quote", "import.16-blank-before-the-quote",
+    "import.16-with-a-CR", "import.16-in-a-line-of-79", "import.16-in-a-line-of-80",
+    "import.17-of-16", "import.17-of-16-when-halved", "import.17-of-more-than-16", "import.17-of-spaces", "import.17-of-quotes",
+    "import.17-with-a-wrong-character", "import.17-in-a-line-of-79", "import.17-in-a-line-of-80",
+    // Two faults
+    "import.15-before-16", "import.15-before-17", "import.15-too-long-before-16", "import.15-too-long-before-17",
+    "import.15-no-LF-before-16", "import.15-no-LF-before-17",
+    "import.15-before-a-later-16", "import.15-before-a-later-17", "import.16-before-a-later-15",
+    "import.16-before-a-later-17", "import.17-before-a-later-15", "import.17-before-a-later-16",
+    "import.15-before-its-record", "import.16-before-its-record", "import.17-before-its-record",
+    "import.15-before-an-earlier-record", "import.16-before-an-earlier-record", "import.17-before-an-earlier-record",
+    "import.15-before-13", "import.16-before-13", "import.17-before-13",
+    // What is read
+    "import.number-of-1", "import.number-of-2", "import.number-of-3", "import.number-of-4", "import.number-leading-0",
+    "import.label-digits", "import.label-capitals", "import.label-small", "import.label-mixed",
+    "import.flags-of-1", "import.flags-of-2", "import.flags-leading-0",
+    "import.trace-of-1", "import.trace-of-2-to-13", "import.trace-of-14", "import.trace-of-15", "import.trace-of-15-when-halved",
+    "import.trace-of-15-quotes", "import.trace-comma", "import.trace-blank-first", "import.trace-blank-last",
+    "import.trace-quote-alone", "import.trace-quote-first", "import.trace-quote-last", "import.trace-quote-between",
+    "import.trace-two-quotes-together", "import.trace-quote-and-comma",
+    // The catalogue's refusals over it
+    "import.11-of-one-0", "import.11-of-more-0", "import.4-of-00", "import.4-of-FF", "import.4-of-ff",
+    "import.12-of-16", "import.12-of-99", "import.21-of-none", "import.21-of-blanks",
+    "import.5-of-CR", "import.5-behind-a-doubled-quote", "import.20-behind-a-doubled-quote",
+    "import.13-written-alike", "import.13-written-otherwise",
+    "import.12-before-a-later-record", "import.12-before-13",
+    "export.none", "export.some", "export.512",
+    "export.refused-9", "export.refused-10", "export.refused-11", "export.refused-4", "export.refused-5", "export.refused-20",
+    "export.refused-21", "export.refused-12", "export.refused-13",
+    "export.number-of-1", "export.number-of-2", "export.number-of-3", "export.number-of-4",
+    "export.label-below-10", "export.label-letters", "export.flags-of-1", "export.flags-of-2",
+    "export.trace-quote-first", "export.trace-quote-last", "export.trace-quote-between", "export.trace-of-15-quotes",
+    "export.trace-comma", "export.trace-blank-first", "export.trace-blanks-last",
     "parity.asked", "check.no", "check.yes", "read.asked", "read.not-two-bytes",
     "defects.0", "defects.1", "defects.2", "defects.3", "defects.4",
     "tx.taken", "tx.refused-4", "tx.refused-5", "tx.refused-20", "tx.refused-21", "tx.refused-6",
@@ -964,6 +1023,518 @@ pub fn listed(refused: Option<&Refusal>, note: Note) {
         _ => "list.refused",
     });
 }
+
+// ---------------------------------------------------------------------------
+// The spreadsheet
+// ---------------------------------------------------------------------------
+
+/// A line of a text, taken apart here once more: these functions do not ask the
+/// rules.
+struct SheetLine<'a> {
+    bytes: &'a [u8],
+    ended: bool,
+    /// What stands between commas. Those are none that stand behind an odd number
+    /// of quotes in a third field that begins with one.
+    fields: Vec<&'a [u8]>,
+}
+
+impl<'a> SheetLine<'a> {
+    fn new(bytes: &'a [u8], ended: bool) -> Self {
+        let mut fields = Vec::new();
+        let (mut from, mut inside) = (0, false);
+        for (at, byte) in bytes.iter().enumerate() {
+            match byte {
+                b'"' if fields.len() == 2 && bytes[from] == b'"' => inside = !inside,
+                b',' if !inside => {
+                    fields.push(&bytes[from..at]);
+                    from = at + 1;
+                }
+                _ => {}
+            }
+        }
+        fields.push(&bytes[from..]);
+        SheetLine { bytes, ended, fields }
+    }
+
+    /// A field as it stands; nothing where there is none.
+    fn field(&self, place: usize) -> &'a [u8] {
+        self.fields.get(place).copied().unwrap_or(b"")
+    }
+
+    /// What stands between the quotes of the trace, where it has them and those
+    /// in it are doubled.
+    fn quoted(&self) -> Option<&'a [u8]> {
+        let [b'"', inside @ .., b'"'] = self.field(2) else {
+            return None;
+        };
+        inside.split(|byte| *byte != b'"').all(|quotes| quotes.len() % 2 == 0).then_some(inside)
+    }
+
+    /// Whether the trace field opens without a quote.
+    fn unquoted(&self) -> bool {
+        self.fields.len() > 2 && self.field(2).first() != Some(&b'"')
+    }
+
+    /// The characters of the trace, each two quotes one; nothing where it is not
+    /// quoted.
+    fn characters(&self) -> Vec<u8> {
+        let mut characters = Vec::new();
+        let mut second = false;
+        for byte in self.quoted().unwrap_or(b"") {
+            second = *byte == b'"' && !second;
+            if *byte != b'"' || second {
+                characters.push(*byte);
+            }
+        }
+        characters
+    }
+
+    /// Each thing by which it can be malformed: too long, no LF, the number of
+    /// its fields, its number, label, trace, flags.
+    fn malformed(&self) -> [bool; 7] {
+        let digits = |field: &[u8], most: usize| (1..=most).contains(&field.len()) && field.iter().all(u8::is_ascii_digit);
+        let count = self.fields.len();
+        let quotes_wrong = count > 2 && !self.unquoted() && self.quoted().is_none();
+        [
+            self.bytes.len() > 80,
+            !self.ended,
+            count != 4 && !quotes_wrong,
+            !digits(self.field(0), 4),
+            count > 1 && !(self.field(1).len() == 2 && self.field(1).iter().all(u8::is_ascii_hexdigit)),
+            quotes_wrong,
+            count == 4 && !digits(self.field(3), 2),
+        ]
+    }
+
+    /// The number of its refusal, 0 where it has none.
+    fn number(&self) -> u8 {
+        if self.malformed().contains(&true) {
+            15
+        } else if self.unquoted() {
+            16
+        } else if self.characters().len() > 15 {
+            17
+        } else {
+            0
+        }
+    }
+
+    /// Whether a record of what can be read in it would be wrong: its number,
+    /// label, characters or flags.
+    fn record_wrong(&self) -> bool {
+        let flags = self.field(3);
+        let of_0 = |field: &[u8]| !field.is_empty() && field.iter().all(|digit| *digit == b'0');
+        of_0(self.field(0))
+            || matches!(self.field(1), b"00" | [b'F' | b'f', b'F' | b'f'])
+            || self.quoted().is_some_and(|inside| unprintable(inside) || inside.iter().all(|c| *c == b' '))
+            || (flags.len() == 2 && flags > b"15" && flags.iter().all(u8::is_ascii_digit))
+    }
+
+    /// Its trace as a record has it.
+    fn padded(&self) -> Vec<u8> {
+        let mut characters = self.characters();
+        characters.resize(15, b' ');
+        characters
+    }
+}
+
+/// A text that was imported: the faults of its lines, and which of them decided.
+pub fn imported(text: &[u8], answer: &Result<Vec<u8>, Refusal>, note: Note) {
+    let mut lines: Vec<SheetLine> = text.split(|byte| *byte == b'\n').map(|line| SheetLine::new(line, true)).collect();
+    // What is behind the last LF is a line that none ends, where it is anything.
+    match lines.last_mut() {
+        Some(last) if !last.bytes.is_empty() => last.ended = false,
+        _ => {
+            lines.pop();
+        }
+    }
+    if text.len() > 512 * 81 {
+        note("import.text-above-41472-bytes");
+    }
+    match answer {
+        Ok(catalogue) => {
+            note(match lines.len() {
+                0 => "import.none",
+                1 => "import.one",
+                512 => "import.512",
+                _ => "import.some",
+            });
+            if !lines.is_empty() && super::rules::export(catalogue).as_deref() == Ok(text) {
+                note("import.of-an-export");
+            }
+            for line in &lines {
+                line_read(line, note);
+            }
+        }
+        Err(Refusal { number: 18, .. }) => {
+            let any = |number: u8| lines.iter().any(|line| line.number() == number);
+            let ended = lines.iter().filter(|line| line.ended).count();
+            each(
+                [
+                    (true, "import.refused-18"),
+                    (ended == 513 && lines.len() == 513, "import.18-by-513-LF"),
+                    (ended == 512, "import.18-by-bytes-behind-512-LF"),
+                    (lines.len() > 513, "import.18-of-more-than-513"),
+                    (lines.iter().all(|line| line.bytes.is_empty()), "import.18-of-empty-lines"),
+                    (any(15) && ended == lines.len(), "import.18-before-15"),
+                    (lines.iter().any(|line| line.bytes.len() > 80), "import.18-before-too-long"),
+                    (any(16), "import.18-before-16"),
+                    (any(17), "import.18-before-17"),
+                ],
+                note,
+            );
+        }
+        Err(refusal) => {
+            let place = refusal.places[0];
+            let (front, [line, behind @ ..]) = lines.split_at(place - 1) else {
+                return;
+            };
+            match refusal.number {
+                15 => line_malformed(line, place, note),
+                16 => line_unquoted(line, note),
+                17 => line_with_a_long_trace(line, note),
+                _ => record_refused(refusal, line, front, behind, note),
+            }
+            if matches!(refusal.number, 15..=17) {
+                decided(refusal.number, line, front, behind, note);
+            }
+        }
+    }
+}
+
+/// A line with one of 15, 16, 17 that decided: where it stands, and what stands
+/// in it, before it and behind it.
+fn decided(number: u8, line: &SheetLine, front: &[SheetLine], behind: &[SheetLine], note: Note) {
+    let later = |number: u8| behind.iter().any(|line| line.number() == number);
+    let mut met = HashSet::new();
+    let repeat = front.iter().any(|line| !met.insert(line.padded()));
+    let names = match number {
+        15 => [
+            "import.refused-15", "import.15-in-line-1", "import.15-in-a-later-line", "import.15-in-line-512",
+            "import.15-before-its-record", "import.15-before-an-earlier-record", "import.15-before-13",
+        ],
+        16 => [
+            "import.refused-16", "import.16-in-line-1", "import.16-in-a-later-line", "import.16-in-line-512",
+            "import.16-before-its-record", "import.16-before-an-earlier-record", "import.16-before-13",
+        ],
+        _ => [
+            "import.refused-17", "import.17-in-line-1", "import.17-in-a-later-line", "import.17-in-line-512",
+            "import.17-before-its-record", "import.17-before-an-earlier-record", "import.17-before-13",
+        ],
+    };
+    let cases = [
+        true,
+        front.is_empty(),
+        !front.is_empty(),
+        front.len() == 511,
+        line.record_wrong(),
+        front.iter().any(|line| line.record_wrong()),
+        repeat,
+    ];
+    for (name, met) in names.iter().zip(cases) {
+        if met {
+            note(name);
+        }
+    }
+    each(
+        [
+            (number == 15 && later(16), "import.15-before-a-later-16"),
+            (number == 15 && later(17), "import.15-before-a-later-17"),
+            (number == 16 && later(15), "import.16-before-a-later-15"),
+            (number == 16 && later(17), "import.16-before-a-later-17"),
+            (number == 17 && later(15), "import.17-before-a-later-15"),
+            (number == 17 && later(16), "import.17-before-a-later-16"),
+        ],
+        note,
+    );
+}
+
+/// The characters just beside the hex digits.
+const BESIDE_HEX: [(u8, &str, &str); 6] = [
+    (0x2F, "import.15-label-2F-first", "import.15-label-2F-second"),
+    (0x3A, "import.15-label-3A-first", "import.15-label-3A-second"),
+    (0x40, "import.15-label-40-first", "import.15-label-40-second"),
+    (0x47, "import.15-label-47-first", "import.15-label-47-second"),
+    (0x60, "import.15-label-60-first", "import.15-label-60-second"),
+    (0x67, "import.15-label-67-first", "import.15-label-67-second"),
+];
+
+/// A line that is 15: by what, where it is that alone, and whether it has more.
+fn line_malformed(line: &SheetLine, place: usize, note: Note) {
+    let malformed = line.malformed();
+    let by = |kind: usize| malformed[kind];
+    let alone = malformed.iter().filter(|one| **one).count() == 1;
+    let (bytes, trace) = (line.bytes, line.field(2));
+    let long_trace = line.characters().len() > 15;
+    each(
+        [
+            (line.unquoted() && !by(0) && !by(1), "import.15-before-16"),
+            (long_trace && !by(0) && !by(1), "import.15-before-17"),
+            (alone && by(0) && line.unquoted(), "import.15-too-long-before-16"),
+            (alone && by(0) && long_trace, "import.15-too-long-before-17"),
+            (alone && by(1) && line.unquoted(), "import.15-no-LF-before-16"),
+            (alone && by(1) && long_trace, "import.15-no-LF-before-17"),
+            (bytes.is_empty(), "import.15-empty-line"),
+            (bytes == b"\r" && line.ended, "import.15-CR-alone"),
+            (bytes == b"\r" && !line.ended, "import.15-no-LF-behind-CR-alone"),
+        ],
+        note,
+    );
+    // From here on nothing else is wrong with it.
+    if !alone || (line.unquoted() && !by(0) && !by(2)) || (long_trace && !by(0)) {
+        return;
+    }
+    let (number, label, flags) = (line.field(0), line.field(1), line.field(3));
+    // It has as many digits as it may and one character that is none.
+    let has = |field: &[u8], most: usize, byte: u8| field.len() <= most && field.contains(&byte);
+    let is_quoted = |field: &[u8]| matches!(field, [b'"', .., b'"']);
+    let count = line.fields.len();
+    let quotes = number_of(b'"', trace);
+    each(
+        [
+            (by(0) && bytes.len() == 81, "import.15-line-of-81"),
+            (by(0) && bytes.len() > 81, "import.15-line-above-81"),
+            (by(0) && bytes.len() - number_of(b'"', bytes) / 2 < 80, "import.15-line-above-80-of-quotes"),
+            (by(1), "import.15-no-LF"),
+            (by(1) && place == 512, "import.15-no-LF-at-line-512"),
+            (by(2) && count < 4 && !line.unquoted(), "import.15-fewer-fields"),
+            (by(2) && count > 4 && !line.unquoted(), "import.15-more-fields"),
+            (by(2) && count == 5 && bytes.ends_with(b",") && !line.unquoted(), "import.15-comma-at-the-end"),
+            (by(2) && count == 3 && line.quoted().is_some(), "import.15-nothing-behind-the-quote"),
+            (by(2) && count == 3 && line.unquoted(), "import.15-unquoted-to-the-end"),
+            (by(2) && count > 4 && line.unquoted(), "import.15-unquoted-with-a-comma"),
+            (by(3) && number.is_empty(), "import.15-number-empty"),
+            (by(3) && number.len() == 5 && number.iter().all(u8::is_ascii_digit), "import.15-number-of-5"),
+            (by(3) && has(number, 4, 0x2F), "import.15-number-2F"),
+            (by(3) && has(number, 4, 0x3A), "import.15-number-3A"),
+            (by(3) && has(number, 4, b' '), "import.15-number-blank"),
+            (by(3) && bytes.starts_with(b" "), "import.15-blank-at-the-start"),
+            (by(3) && place == 1 && bytes.starts_with(MARK), "import.15-mark-at-the-start"),
+            (by(3) && number.len() < 5 && matches!(number, [b'+' | b'-', b'0'..=b'9', ..]), "import.15-number-signed"),
+            (by(3) && is_quoted(number), "import.15-number-quoted"),
+            (by(4) && is_quoted(label), "import.15-label-quoted"),
+            (by(6) && is_quoted(flags), "import.15-flags-quoted"),
+            (by(6) && flags.len() < 3 && !flags.is_empty() && flags.iter().all(u8::is_ascii_hexdigit), "import.15-flags-hex"),
+            (by(4) && label.is_empty(), "import.15-label-empty"),
+            (by(4) && label.len() == 1, "import.15-label-of-1"),
+            (by(4) && label.len() == 3 && label.iter().all(u8::is_ascii_hexdigit), "import.15-label-of-3"),
+            (by(5) && trace == b"\"", "import.15-quote-alone"),
+            (by(5) && quotes % 2 == 1 && trace != b"\"" && !trace.windows(3).any(|three| three == b"\"\","), "import.15-quote-not-closed"),
+            (by(5) && quotes == 3 && trace[1] != b'"' && trace.windows(3).any(|three| three == b"\"\","), "import.15-quote-doubled-at-the-end"),
+            (by(5) && trace.starts_with(b"\"\"\",") && quotes == 3, "import.15-three-quotes-alone"),
+            (by(5) && quotes % 2 == 0 && trace.ends_with(b"\""), "import.15-quote-inside"),
+            (by(5) && quotes % 2 == 0 && trace.ends_with(b"\" "), "import.15-blank-behind-the-quote"),
+            (by(5) && quotes % 2 == 0 && !trace.ends_with(b"\"") && !trace.ends_with(b"\" "), "import.15-more-behind-the-quote"),
+            (by(6) && flags.is_empty(), "import.15-flags-empty"),
+            (by(6) && flags.len() == 3 && flags.iter().all(u8::is_ascii_digit), "import.15-flags-of-3"),
+            (by(6) && has(flags, 2, 0x2F), "import.15-flags-2F"),
+            (by(6) && has(flags, 2, 0x3A), "import.15-flags-3A"),
+            (by(6) && has(flags, 2, b' '), "import.15-flags-blank"),
+            (by(6) && bytes.ends_with(b" "), "import.15-blank-at-the-end"),
+            (by(6) && flags.len() > 1 && flags.ends_with(b"\r"), "import.15-CR-before-LF"),
+        ],
+        note,
+    );
+    if let (true, [high, low]) = (by(4), label) {
+        for (byte, first, second) in BESIDE_HEX {
+            if *high == byte && low.is_ascii_hexdigit() {
+                note(first);
+            }
+            if *low == byte && high.is_ascii_hexdigit() {
+                note(second);
+            }
+        }
+    }
+}
+
+/// A line that is 16.
+fn line_unquoted(line: &SheetLine, note: Note) {
+    let trace = line.field(2);
+    each(
+        [
+            (trace.is_empty(), "import.16-empty"),
+            ((1..=15).contains(&trace.len()), "import.16-of-15-or-fewer"),
+            (trace.len() > 15, "import.16-of-more-than-15"),
+            (trace.contains(&b'"') && trace[0] != b' ', "import.16-with-a-quote"),
+            (trace.starts_with(b" \"") && trace.ends_with(b"\""), "import.16-blank-before-the-quote"),
+            (trace.contains(&b'\r'), "import.16-with-a-CR"),
+            (line.bytes.len() == 79, "import.16-in-a-line-of-79"),
+            (line.bytes.len() == 80, "import.16-in-a-line-of-80"),
+        ],
+        note,
+    );
+}
+
+/// A line that is 17.
+fn line_with_a_long_trace(line: &SheetLine, note: Note) {
+    let characters = line.characters();
+    let halved = characters.len() + 2 < line.field(2).len();
+    each(
+        [
+            (characters.len() == 16 && !halved, "import.17-of-16"),
+            (characters.len() == 16 && halved, "import.17-of-16-when-halved"),
+            (characters.len() > 16, "import.17-of-more-than-16"),
+            (characters.iter().all(|c| *c == b' '), "import.17-of-spaces"),
+            (characters.iter().all(|c| *c == b'"'), "import.17-of-quotes"),
+            (unprintable(&characters), "import.17-with-a-wrong-character"),
+            (line.bytes.len() == 79, "import.17-in-a-line-of-79"),
+            (line.bytes.len() == 80, "import.17-in-a-line-of-80"),
+        ],
+        note,
+    );
+}
+
+/// A line of a text that was taken.
+fn line_read(line: &SheetLine, note: Note) {
+    let (number, label, trace, flags) = (line.field(0), line.field(1), line.field(2), line.field(3));
+    let characters = line.characters();
+    let quotes = number_of(b'"', &characters);
+    let quote_at = |place: Option<&u8>| place == Some(&b'"') && quotes < characters.len();
+    let inside = characters.get(1..characters.len() - 1).unwrap_or(b"");
+    note(match number.len() {
+        1 => "import.number-of-1",
+        2 => "import.number-of-2",
+        3 => "import.number-of-3",
+        _ => "import.number-of-4",
+    });
+    note(match (label.iter().any(u8::is_ascii_uppercase), label.iter().any(u8::is_ascii_lowercase)) {
+        (false, false) => "import.label-digits",
+        (true, false) => "import.label-capitals",
+        (false, true) => "import.label-small",
+        (true, true) => "import.label-mixed",
+    });
+    note(if flags.len() == 1 { "import.flags-of-1" } else { "import.flags-of-2" });
+    note(match characters.len() {
+        1 => "import.trace-of-1",
+        14 => "import.trace-of-14",
+        15 if quotes == 0 => "import.trace-of-15",
+        15 => "import.trace-of-15-when-halved",
+        _ => "import.trace-of-2-to-13",
+    });
+    each(
+        [
+            (number[0] == b'0', "import.number-leading-0"),
+            (flags.len() == 2 && flags[0] == b'0', "import.flags-leading-0"),
+            (quotes == 15, "import.trace-of-15-quotes"),
+            (characters.contains(&b','), "import.trace-comma"),
+            (characters[0] == b' ', "import.trace-blank-first"),
+            (characters.ends_with(b" "), "import.trace-blank-last"),
+            (characters == b"\"", "import.trace-quote-alone"),
+            (quote_at(characters.first()), "import.trace-quote-first"),
+            (quote_at(characters.last()), "import.trace-quote-last"),
+            (inside.contains(&b'"') && quotes < characters.len(), "import.trace-quote-between"),
+            (characters.windows(2).any(|two| two == b"\"\""), "import.trace-two-quotes-together"),
+            (trace.windows(3).any(|three| three == b"\"\","), "import.trace-quote-and-comma"),
+        ],
+        note,
+    );
+}
+
+/// A text of which the catalogue was refused: the line that is its record, those
+/// before it and those behind.
+fn record_refused(refusal: &Refusal, line: &SheetLine, front: &[SheetLine], behind: &[SheetLine], note: Note) {
+    let number = refusal.number;
+    note(match number {
+        11 => "import.refused-11",
+        4 => "import.refused-4",
+        5 => "import.refused-5",
+        20 => "import.refused-20",
+        21 => "import.refused-21",
+        12 => "import.refused-12",
+        _ => "import.refused-13",
+    });
+    let (digits, label, flags) = (line.field(0), line.field(1), line.field(3));
+    let (trace, characters) = (line.field(2), line.characters());
+    // The place of a character is not that of its byte.
+    let moved = match refusal.places[..] {
+        [_, place] if matches!(number, 5 | 20) => trace.get(place) != characters.get(place - 1),
+        _ => false,
+    };
+    let character = match refusal.places[..] {
+        [_, place] if number == 5 => characters[place - 1],
+        _ => b' ',
+    };
+    // The record that a repeat names beside it.
+    let first = match refusal.places[..] {
+        [_, first] if number == 13 => front[first - 1].field(2),
+        _ => b"",
+    };
+    let mut met = HashSet::new();
+    let repeat = front.iter().chain([line]).chain(behind).any(|line| !met.insert(line.padded()));
+    each(
+        [
+            (number == 11 && digits.len() == 1, "import.11-of-one-0"),
+            (number == 11 && digits.len() > 1, "import.11-of-more-0"),
+            (number == 4 && label == b"00", "import.4-of-00"),
+            (number == 4 && label == b"FF", "import.4-of-FF"),
+            (number == 4 && label == b"ff", "import.4-of-ff"),
+            (number == 12 && flags == b"16", "import.12-of-16"),
+            (number == 12 && flags == b"99", "import.12-of-99"),
+            (number == 12 && behind.iter().any(|line| line.record_wrong()), "import.12-before-a-later-record"),
+            (number == 12 && repeat, "import.12-before-13"),
+            (number == 21 && characters.is_empty(), "import.21-of-none"),
+            (number == 21 && !characters.is_empty(), "import.21-of-blanks"),
+            (character == b'\r', "import.5-of-CR"),
+            (number == 5 && moved, "import.5-behind-a-doubled-quote"),
+            (number == 20 && moved, "import.20-behind-a-doubled-quote"),
+            (number == 13 && first == trace, "import.13-written-alike"),
+            (number == 13 && first != trace, "import.13-written-otherwise"),
+        ],
+        note,
+    );
+}
+
+/// A catalogue that was exported.
+pub fn exported(bytes: &[u8], answer: &Result<Vec<u8>, Refusal>, note: Note) {
+    if let Err(refusal) = answer {
+        note(match refusal.number {
+            9 => "export.refused-9",
+            10 => "export.refused-10",
+            11 => "export.refused-11",
+            4 => "export.refused-4",
+            5 => "export.refused-5",
+            20 => "export.refused-20",
+            21 => "export.refused-21",
+            12 => "export.refused-12",
+            _ => "export.refused-13",
+        });
+        return;
+    }
+    note(match bytes.len() / RECORD_LENGTH {
+        0 => "export.none",
+        512 => "export.512",
+        _ => "export.some",
+    });
+    for record in bytes.chunks_exact(RECORD_LENGTH) {
+        let (label, trace, flags) = (record[4], &record[5..20], record[20]);
+        let quotes = number_of(b'"', trace);
+        note(match u16::from_be_bytes([record[2], record[3]]) {
+            0..=9 => "export.number-of-1",
+            10..=99 => "export.number-of-2",
+            100..=999 => "export.number-of-3",
+            _ => "export.number-of-4",
+        });
+        note(if flags < 10 { "export.flags-of-1" } else { "export.flags-of-2" });
+        each(
+            [
+                (label < 0x10, "export.label-below-10"),
+                (label >> 4 > 9 || label & 15 > 9, "export.label-letters"),
+                (trace[0] == b'"' && quotes < 15, "export.trace-quote-first"),
+                (trace[14] == b'"' && quotes < 15, "export.trace-quote-last"),
+                (trace[1..14].contains(&b'"') && quotes < 15, "export.trace-quote-between"),
+                (quotes == 15, "export.trace-of-15-quotes"),
+                (trace.contains(&b','), "export.trace-comma"),
+                (trace[0] == b' ', "export.trace-blank-first"),
+                (trace[14] == b' ', "export.trace-blanks-last"),
+            ],
+            note,
+        );
+    }
+}
+
+// ---------------------------------------------------------------------------
+// The settings
+// ---------------------------------------------------------------------------
 
 /// The settings of the source: what they are refused by, and the faults that
 /// it came before.

@@ -1,12 +1,13 @@
 //! The core of the second program once more, made as fast as plain Rust at
 //! release allows: the sink, the container source, the unit source, the payload
-//! call and parity. The rules, with the paper's words, stand in second/rules;
-//! here are none that are not there. For every call answers, states and buffers
-//! are the same, and the tests below ask both.
+//! call and parity; and the spreadsheet. The rules, with the paper's words, stand
+//! in second/rules; here are none that are not there. For every call answers,
+//! states and buffers are the same, and the tests below ask both.
 //!
-//! It is the rival of the base and stays so: AU-4 alone, by the base rules. A
+//! Its core is the rival of the base and stays so: AU-4 alone, by the base rules. A
 //! later request changes it only where that costs nothing. So it knows a
 //! refusal's number and not the places: with these each call would take longer.
+//! The spreadsheet is one request's alone.
 //!
 //! States are changed in place, nothing is allocated, bytes go by
 //! `copy_from_slice`, and parity is taken 32 bytes at a time. A sink at rest
@@ -18,7 +19,7 @@
 
 use crate::second::{
     self, decrement_word, increment_word, inverted, plain_word, Asked, ContainerSource, Expected, Given, Pointer,
-    PointerReader, Sink, Taken, UnitSource, Watch, AU4, ROWS,
+    PointerReader, Sink, Taken, UnitSource, Watch, AU4, LONGEST_CATALOGUE, LONGEST_SHEET_LINE, MOST_LINES, RECORD_LENGTH, ROWS,
 };
 
 const ROW_LENGTH: usize = AU4.columns;
@@ -905,6 +906,259 @@ fn feed(
 }
 
 // ---------------------------------------------------------------------------
+// The spreadsheet
+// ---------------------------------------------------------------------------
+
+type Record = [u8; RECORD_LENGTH];
+
+/// A buffer for the text of the longest catalogue.
+pub type Text = [u8; 23_552];
+
+/// What a hex digit in either case stands for; above 15 where it is none.
+const HEX: [u8; 256] = {
+    let mut table = [0xFF; 256];
+    let mut value = 0;
+    while value < 16 {
+        table[b"0123456789ABCDEF"[value] as usize] = value as u8;
+        table[b"0123456789abcdef"[value] as usize] = value as u8;
+        value += 1;
+    }
+    table
+};
+
+/// A decimal number of at most so many digits and the byte that must stand behind
+/// it; the number, and where what follows begins.
+#[inline(always)]
+fn decimal(bytes: &[u8], most_digits: usize, behind: u8) -> Option<(u16, usize)> {
+    let (mut at, mut sum) = (0, 0);
+    loop {
+        let byte = *bytes.get(at)?;
+        let digit = byte.wrapping_sub(b'0');
+        if digit > 9 {
+            return (byte == behind && at > 0).then_some((sum, at + 1));
+        }
+        if at == most_digits {
+            return None;
+        }
+        sum = sum * 10 + u16::from(digit);
+        at += 1;
+    }
+}
+
+/// The record of the line with which these bytes begin, and where the next line
+/// begins; none where the line has a fault. A line without one has 43 bytes at
+/// most, so that no length is asked for.
+#[inline(always)]
+fn read_line(bytes: &[u8]) -> Option<(Record, usize)> {
+    let mut record = [b' '; RECORD_LENGTH];
+    record[..2].copy_from_slice(&[0x5A, 0x4D]);
+    let (circuit, mut at) = decimal(bytes, 4, b',')?;
+    record[2..4].copy_from_slice(&circuit.to_be_bytes());
+    let [high, low, b',', b'"', ..] = bytes[at..] else {
+        return None;
+    };
+    let (high, low) = (HEX[usize::from(high)], HEX[usize::from(low)]);
+    if (high | low) > 15 {
+        return None;
+    }
+    record[4] = high << 4 | low;
+    at += 4;
+    let mut place = 5;
+    loop {
+        let character = *bytes.get(at)?;
+        at += 1;
+        if character == b'"' {
+            match bytes.get(at)? {
+                b'"' => at += 1,
+                b',' => break,
+                _ => return None,
+            }
+        }
+        if character == b'\n' || place == 20 {
+            return None;
+        }
+        record[place] = character;
+        place += 1;
+    }
+    at += 1;
+    let (flags, length) = decimal(&bytes[at..], 2, b'\n')?;
+    record[20] = flags as u8;
+    Some((record, at + length))
+}
+
+/// The fault of the line with which these bytes begin, where it has one.
+#[cold]
+fn line_fault(bytes: &[u8]) -> u8 {
+    let Some(end) = bytes.iter().take(LONGEST_SHEET_LINE + 1).position(|byte| *byte == b'\n') else {
+        return 15;
+    };
+    let line = &bytes[..=end];
+    let Some((_, at)) = decimal(line, 4, b',') else {
+        return 15;
+    };
+    let [high, low, b',', ref trace @ ..] = line[at..] else {
+        return 15;
+    };
+    if (HEX[usize::from(high)] | HEX[usize::from(low)]) > 15 {
+        return 15;
+    }
+    // The comma behind the trace is the first that stands in no quotes. What stands
+    // behind a quote that closes is this comma, or a quote that opens again.
+    let quoted = trace[0] == b'"';
+    let mut inside = false;
+    let behind = trace.iter().position(|byte| {
+        inside ^= quoted && *byte == b'"';
+        !inside && (*byte == b',' || quoted && *byte != b'"')
+    });
+    let flags = behind.filter(|at| trace[*at] == b',').and_then(|at| decimal(&trace[at + 1..], 2, b'\n'));
+    if flags.is_none() {
+        15
+    } else if quoted {
+        17
+    } else {
+        16
+    }
+}
+
+/// The number of a record's fault by itself, 0 where it has none.
+#[inline(always)]
+fn record_fault(record: &Record) -> u8 {
+    let circuit = u16::from_be_bytes([record[2], record[3]]);
+    let mut trace = [0; 15];
+    trace.copy_from_slice(&record[5..20]);
+    if record[..2] != [0x5A, 0x4D] {
+        10
+    } else if circuit == 0 || circuit > 9999 {
+        11
+    } else if !label_good(record[4]) {
+        4
+    } else if !characters_good(&trace) {
+        in_trace(&trace)
+    } else if record[20] > 15 {
+        12
+    } else {
+        0
+    }
+}
+
+/// The two halves of a record's trace, which have one character in common.
+#[inline(always)]
+fn halves(record: &Record) -> (u64, u64) {
+    (eight(record, 5), eight(record, 12))
+}
+
+/// Whether two of these records, at most `MOST`, have one trace. Each has a number
+/// that is made of its trace: those of all earlier records are compared with that
+/// of a later one without a branch, and only where one is alike are the traces.
+fn repeated<'a, const MOST: usize>(records: impl Iterator<Item = &'a Record> + Clone) -> bool {
+    let mut numbers = [0u32; MOST];
+    for (later, record) in records.clone().enumerate() {
+        let (first, second) = halves(record);
+        let sum = first.wrapping_mul(0x9E37_79B9_7F4A_7C15).wrapping_add(second.wrapping_mul(0xC2B2_AE3D_27D4_EB4F));
+        let number = (sum >> 32) as u32;
+        let alike = numbers[..later].iter().fold(false, |alike, earlier| alike | (*earlier == number));
+        if alike && records.clone().take(later).any(|earlier| halves(earlier) == (first, second)) {
+            return true;
+        }
+        numbers[later] = number;
+    }
+    false
+}
+
+/// The number of records, or the number of the refusal.
+pub fn import(text: &[u8], catalogue: &mut [u8; LONGEST_CATALOGUE]) -> Result<usize, u8> {
+    let ended = text.iter().filter(|byte| **byte == b'\n').count();
+    if ended > MOST_LINES || (ended == MOST_LINES && text.last() != Some(&b'\n')) {
+        return Err(18);
+    }
+    // A line that no LF ends is refused before its record is kept.
+    match ended {
+        0..=8 => import_most::<8>(text, catalogue),
+        9..=64 => import_most::<64>(text, catalogue),
+        _ => import_most::<MOST_LINES>(text, catalogue),
+    }
+}
+
+/// The same of so many lines at the most. The records are kept until nothing can
+/// be refused any more.
+#[inline(always)]
+fn import_most<const MOST: usize>(text: &[u8], catalogue: &mut [u8; LONGEST_CATALOGUE]) -> Result<usize, u8> {
+    let mut records = [[0; RECORD_LENGTH]; MOST];
+    let (mut rest, mut count, mut fault) = (text, 0, 0);
+    while !rest.is_empty() {
+        let Some((record, length)) = read_line(rest) else {
+            return Err(line_fault(rest));
+        };
+        if fault == 0 {
+            fault = record_fault(&record);
+        }
+        records[count] = record;
+        count += 1;
+        rest = &rest[length..];
+    }
+    let records = &records[..count];
+    if fault != 0 {
+        return Err(fault);
+    }
+    if repeated::<MOST>(records.iter()) {
+        return Err(13);
+    }
+    for (to, record) in catalogue.chunks_exact_mut(RECORD_LENGTH).zip(records) {
+        to.copy_from_slice(record);
+    }
+    Ok(count)
+}
+
+/// A number of at most four digits, without leading zeros; where what follows
+/// begins.
+#[inline(always)]
+fn put_decimal(text: &mut Text, mut at: usize, number: u16) -> usize {
+    for power in [1000, 100, 10] {
+        if number >= power {
+            text[at] = b'0' + (number / power % 10) as u8;
+            at += 1;
+        }
+    }
+    text[at] = b'0' + (number % 10) as u8;
+    at + 1
+}
+
+/// The length of the text, or the number of the refusal.
+pub fn export(catalogue: &[u8], text: &mut Text) -> Result<usize, u8> {
+    if catalogue.len() % RECORD_LENGTH != 0 || catalogue.len() > LONGEST_CATALOGUE {
+        return Err(9);
+    }
+    let records = || catalogue.chunks_exact(RECORD_LENGTH).map(|record| <&Record>::try_from(record).expect("a record"));
+    if let Some(fault) = records().map(record_fault).find(|fault| *fault != 0) {
+        return Err(fault);
+    }
+    if repeated::<MOST_LINES>(records()) {
+        return Err(13);
+    }
+    const DIGITS: &[u8; 16] = b"0123456789ABCDEF";
+    let mut at = 0;
+    for record in records() {
+        at = put_decimal(text, at, u16::from_be_bytes([record[2], record[3]]));
+        let label = record[4];
+        text[at..at + 5].copy_from_slice(&[b',', DIGITS[usize::from(label >> 4)], DIGITS[usize::from(label & 15)], b',', b'"']);
+        at += 5;
+        for character in &record[5..20] {
+            text[at] = *character;
+            at += 1;
+            if *character == b'"' {
+                text[at] = b'"';
+                at += 1;
+            }
+        }
+        text[at..at + 2].copy_from_slice(b"\",");
+        at = put_decimal(text, at + 2, u16::from(record[20]));
+        text[at] = b'\n';
+        at += 1;
+    }
+    Ok(at)
+}
+
+// ---------------------------------------------------------------------------
 // Both cores asked
 // ---------------------------------------------------------------------------
 
@@ -1443,6 +1697,128 @@ mod tests {
 
     /// Units one after another from the sources, good ones, damaged ones,
     /// refused ones, over good times and bad.
+    /// Asks both for the import of a text; the number of the refusal, 0 for none.
+    fn both_import(text: &[u8]) -> u8 {
+        let want = second::import(text);
+        let before: [u8; LONGEST_CATALOGUE] = [0xEE; LONGEST_CATALOGUE];
+        let mut made = before;
+        let got = import(text, &mut made);
+        let shown = String::from_utf8_lossy(text);
+        let bytes = want.as_deref().unwrap_or(&[]);
+        assert!(made[..bytes.len()] == *bytes && made[bytes.len()..] == before[bytes.len()..], "{shown:?}");
+        assert_eq!(got, want.as_ref().map(|made| made.len() / RECORD_LENGTH).map_err(|refusal| refusal.number), "{shown:?}");
+        got.err().unwrap_or(0)
+    }
+
+    /// The same of export.
+    fn both_export(catalogue: &[u8]) -> u8 {
+        let want = second::export(catalogue);
+        let before: Text = [0xEE; 23_552];
+        let mut made = before;
+        let got = export(catalogue, &mut made);
+        let bytes = want.as_deref().unwrap_or(&[]);
+        assert!(made[..bytes.len()] == *bytes && made[bytes.len()..] == before[bytes.len()..], "{catalogue:?}");
+        assert_eq!(got, want.as_ref().map(Vec::len).map_err(|refusal| refusal.number), "{catalogue:?}");
+        got.err().unwrap_or(0)
+    }
+
+    #[test]
+    fn spreadsheets() {
+        let mut dice = Dice(77);
+        let mut met = [0; 22];
+        // Each byte changed, left out and put in.
+        for good in ["7,1f,\"a\"\"b\",15\n", "0120,E9,\",\",03\n9,aB,\"\"\"\",0\n", "1,12,ab,0\n", "1,12,\"1234567890123456\",0\n"] {
+            for at in 0..good.len() {
+                for byte in 0..=255 {
+                    let mut text = good.as_bytes().to_vec();
+                    text[at] = byte;
+                    both_import(&text);
+                    text.insert(at, good.as_bytes()[at]);
+                    both_import(&text);
+                }
+                both_import(&good.as_bytes()[..at]);
+                both_import(&good.as_bytes()[at..]);
+            }
+        }
+        // Fields of every kind.
+        for _ in 0..60_000 {
+            let mut text = Vec::new();
+            let lines = dice.below(5);
+            // Any, or one in so many others that are good.
+            let many = dice.of(&[1, 4, 12]);
+            let mut field = |good: &'static str, any: &[&'static str]| if dice.once_in(many) { dice.of(any) } else { good };
+            for k in 0..lines {
+                let own = ["\"A\"", "\"B  \"", "\"C,\"\"\"", "\"\"\"D1234567890123\""][k as usize];
+                let fields = [
+                    field("1", &["0012", "9999", "0", "", "12345", "1a"]),
+                    field("12", &["aF", "0E", "00", "fF", "1", "1g", "123", ""]),
+                    field(own, &["\"A  \"", "", "A", "\"A", "\"\"", "\"A\"B\"", "\"A\"\"", "\"12345678901234567\"", "\"\u{1F}\"", "\"\u{7F}\""]),
+                    field("0", &["15", "09", "16", "", "100", "0\r", "x"]),
+                ];
+                text.extend(fields.join(",").bytes());
+                text.extend(field("\n", &["\n", "", "\n\n"]).bytes());
+            }
+            met[usize::from(both_import(&text))] += 1;
+        }
+        // Lengths of a line, and numbers of lines.
+        for length in 70..90 {
+            for (open, close) in [("1,12,\"", "\",0"), ("1,12,", ",0"), ("1,12,\"", "\",")] {
+                let line = [open, &"x".repeat(length - open.len() - close.len()), close, "\n"].concat();
+                both_import(line.as_bytes());
+                both_import(&line.as_bytes()[..length]);
+            }
+        }
+        for count in [511, 512, 513, 514] {
+            let text: String = (1..=count).map(|k| format!("{k},12,\"{k}\",0\n")).collect();
+            for more in ["", "x", "\n", "1,12,\"1\",0\n"] {
+                met[usize::from(both_import(format!("{text}{more}").as_bytes()))] += 1;
+            }
+            if let Ok(mut catalogue) = second::import(text.as_bytes()) {
+                both_export(&catalogue);
+                let at = catalogue.len() - RECORD_LENGTH;
+                catalogue.copy_within(5..20, at + 5);
+                both_export(&catalogue);
+            }
+        }
+        for number in [0, 4, 5, 11, 12, 13, 15, 16, 17, 18, 20, 21] {
+            assert!(met[number] > 9, "{number} {met:?}");
+        }
+        // Catalogues, most of them good but for one byte or none.
+        let good: Vec<u8> = (1..=4u8)
+            .flat_map(|k| {
+                let mut record: Record = *b"\x5A\x4D\x00\x07\x12\"a\"\",          \x0F";
+                record[3] = k;
+                record[5 + usize::from(k)] = b'~';
+                record
+            })
+            .collect();
+        let mut met = [0; 22];
+        for _ in 0..20_000 {
+            let mut catalogue = good[..RECORD_LENGTH * dice.below(5) as usize].to_vec();
+            if !catalogue.is_empty() && dice.bool() {
+                let at = dice.below(catalogue.len() as u64) as usize;
+                let any = dice.byte();
+                catalogue[at] = dice.of(&[0x00, 0x0F, 0x10, 0x20, 0x22, 0x27, 0x7F, 0xFF, any]);
+            }
+            if dice.once_in(20) {
+                catalogue.pop();
+            }
+            if dice.once_in(20) {
+                catalogue.extend_from_within(..catalogue.len().min(RECORD_LENGTH));
+            }
+            met[usize::from(both_export(&catalogue))] += 1;
+        }
+        for number in [0, 4, 5, 9, 10, 11, 12, 13, 20] {
+            assert!(met[number] > 3, "{number} {met:?}");
+        }
+        // Every number of a circuit.
+        for circuit in 0..=u16::MAX {
+            let mut record = good[..RECORD_LENGTH].to_vec();
+            record[2..4].copy_from_slice(&circuit.to_be_bytes());
+            both_export(&record);
+        }
+    }
+
     #[test]
     fn long_runs() {
         let mut dice = Dice(5);

@@ -1,4 +1,4 @@
-//! The second program on the command line: catalogue or bytes on standard
+//! The second program on the command line: catalogue, text or bytes on standard
 //! input, the answer on standard output.
 
 mod bench;
@@ -10,7 +10,7 @@ use std::env;
 use std::io::{self, Read, Write};
 use std::process::ExitCode;
 
-const USAGE: &str = "usage: second list | parity | check | read | lookup N  (bytes on standard input)
+const USAGE: &str = "usage: second list | import | export | parity | check | read | lookup N  (bytes on standard input)
        second bench [--rules]  (a script on standard input)";
 
 /// All of standard input.
@@ -49,6 +49,11 @@ fn lookup_text(bytes: &[u8], circuit: u32) -> String {
         }
         Err(refusal) => format!("refused {refusal}\n"),
     }
+}
+
+/// The bytes, or the one line of "A refused file".
+fn or_line(answer: Result<Vec<u8>, second::Refusal>) -> Vec<u8> {
+    answer.unwrap_or_else(|refusal| format!("{refusal}\n").into_bytes())
 }
 
 /// Standard output's fault, said as one.
@@ -93,6 +98,8 @@ fn bench(rules: bool) -> io::Result<()> {
 fn answer(arguments: &[&str]) -> io::Result<Option<Vec<u8>>> {
     let text = match arguments {
         ["list"] => second::listing(&catalogue()?),
+        ["import"] => or_line(second::import(&input()?)),
+        ["export"] => or_line(second::export(&catalogue()?)),
         ["parity"] => format!("parity {:02X}\n", second::parity(&input()?)).into_bytes(),
         ["check"] => format!("check {}\n", u8::from(second::trace_check(&input()?))).into_bytes(),
         ["read"] => format!("read {}\n", second::word_reading(&input()?)).into_bytes(),

@@ -1,13 +1,15 @@
 //! A second program for the parts of the path card that can be asked in bytes
 //! and numbers: parity, trace check, word reading, the pointer words that the
 //! source writes, the container source and the unit source, the payload call,
-//! the sink, and the circuit catalogue with its lookup and listing.
+//! the sink, and the circuit catalogue with its lookup and listing, its import from
+//! comma-separated text and its export.
 //!
 //! Written from the rules paper ("01") alone, with the numbers of TU-3, the three
-//! refusals of a trace and the count of compared pairs from the requests for them
-//! ("02"); only two values in the tests, said there to be published, come from
-//! elsewhere. The rules stand in rules/, which of their cases were met is told by
-//! coverage.rs, and the tests stand in tests/.
+//! refusals of a trace, the count of compared pairs and the spreadsheet from the
+//! requests for them ("02") and what was decided where these leave room; only two
+//! values in the tests, said there to be published, come from elsewhere. The rules
+//! stand in rules/, which of their cases were met is told by coverage.rs, and the
+//! tests stand in tests/.
 
 // A program that takes this file as a module need not use all of it.
 #![allow(dead_code)]

@@ -1,6 +1,7 @@
 //! The proved code against the second program, over many inputs: every word,
 //! every length about the ones that matter, good bytes, damaged and cut ones,
-//! catalogues with any number of faults, and the sources (tests/sources.rs).
+//! catalogues with any number of faults, spreadsheets in and out (tests/texts.rs),
+//! and the sources (tests/sources.rs).
 //!
 //! Links libcard.a, libprobe.a and libprobe_sources.a. `compare [SEED]`: the seed is fixed unless
 //! one is given. A case that differs is printed whole, and the seed with it.
@@ -10,6 +11,7 @@ mod second;
 mod proved;
 mod random;
 mod sources;
+mod texts;
 
 use random::Random;
 
@@ -341,6 +343,7 @@ fn main() {
     settings(&mut r, &mut t);
     catalogues(&mut r, &mut t);
     sources::compare(&mut r, &mut t);
+    texts::compare(&mut r, &mut t);
     println!("compare: {} answers compared, {} differ (seed {seed})", t.compared, t.differed);
     if t.differed > 0 {
         std::process::exit(1);

@@ -19,6 +19,10 @@ pub mod c {
         pub fn probe_check(bytes: *const u8, length: usize) -> u64;
         pub fn probe_list(bytes: *const u8, length: usize, text: *mut [u8; 15898]) -> usize;
         pub fn probe_lookup(bytes: *const u8, length: usize, number: u32, trace: *mut [u8; 15]) -> u64;
+        /// records; of a refused text refusal number * 2^32 + place * 2^16 + second place, 0 for none
+        pub fn probe_import(text: *const u8, length: usize, catalogue: *mut super::Catalogue) -> u64;
+        /// the text's length; of a refused catalogue as above
+        pub fn probe_export(catalogue: *const u8, length: usize, text: *mut super::Text) -> u64;
         /// place * 256 + parity
         pub fn probe_fresh_container() -> u32;
         /// character's place * 2^24 + refusal number * 65536 + place * 256 + parity; number 0 where nothing is refused, and place 0 where no character is named
@@ -192,6 +196,24 @@ pub fn lookup(b: &[u8], number: u32) -> (u64, [u8; 15]) {
     let mut trace = Box::new([0xEE; 15]);
     let found = unsafe { c::probe_lookup(b.as_ptr(), b.len(), number, &mut *trace) };
     (found, *trace)
+}
+
+/// The buffer that import is lent, for the longest catalogue.
+pub type Catalogue = [u8; 10_752];
+
+/// The buffer that export is lent.
+pub type Text = [u8; 23_552];
+
+/// What import answers. The buffer is lent as it is: where valgrind is to see its end, it is a box.
+pub fn import(text: &[u8], catalogue: &mut Catalogue) -> u64 {
+    let text = lent(text);
+    unsafe { c::probe_import(text.as_ptr(), text.len(), catalogue) }
+}
+
+/// The same of export.
+pub fn export(catalogue: &[u8], text: &mut Text) -> u64 {
+    let catalogue = lent(catalogue);
+    unsafe { c::probe_export(catalogue.as_ptr(), catalogue.len(), text) }
 }
 
 /// A container source's place and parity.

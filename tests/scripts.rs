@@ -9,6 +9,13 @@ use crate::bench::{hex, Bench, Command};
 use crate::random::Random;
 use crate::second::{self, Asked, Pointer};
 
+// The path is said, since some of the programs that take this file as a module
+// stand beside it and some elsewhere.
+#[path = "sheets.rs"]
+mod sheets;
+
+use sheets::Spreadsheets;
+
 const NORMAL: [u16; 5] = [0b0110, 0b1110, 0b0010, 0b0100, 0b0111];
 const ENABLED: [u16; 5] = [0b1001, 0b0001, 0b1101, 0b1011, 0b1000];
 const NEITHER: [u16; 6] = [0b0000, 0b0011, 0b0101, 0b1010, 0b1100, 0b1111];
@@ -31,6 +38,7 @@ enum Dress {
 
 struct Script {
     r: Random,
+    sheets: Spreadsheets,
     path: Bench,
     text: Vec<u8>,
     lines: usize,
@@ -1679,10 +1687,14 @@ const SETTLED: [fn(&mut Script); 3] = [Script::between_containers, Script::defec
 
 fn shuffled(r: &mut Random, list: &[fn(&mut Script)]) -> Vec<fn(&mut Script)> {
     let mut deck = list.to_vec();
+    shuffle(r, &mut deck);
+    deck
+}
+
+fn shuffle<T>(r: &mut Random, deck: &mut [T]) {
     for k in (1..deck.len()).rev() {
         deck.swap(k, r.below(k + 1));
     }
-    deck
 }
 
 /// Characters in quotes, each quote among them doubled.
@@ -1704,6 +1716,7 @@ pub fn script(seed: u64, units: usize) -> Vec<u8> {
     r.next();
     let mut s = Script {
         r,
+        sheets: Spreadsheets::new(seed),
         path: Bench::new(),
         text: Vec::new(),
         lines: 0,
@@ -1782,7 +1795,9 @@ pub fn script(seed: u64, units: usize) -> Vec<u8> {
         for _ in 0..3 {
             s.of(&BETWEEN)(&mut s);
         }
+        s.next_sheet();
     }
+    while s.next_sheet() {}
     // A last line needs no LF, with a CR or without.
     if seed % 2 == 0 {
         if seed % 4 == 0 {

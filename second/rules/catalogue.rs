@@ -11,7 +11,7 @@ pub const MOST_RECORDS: usize = 512;
 pub const LONGEST_CATALOGUE: usize = RECORD_LENGTH * MOST_RECORDS;
 
 /// "A two-byte mark before each record, 5A 4D"
-const MARK: [u8; 2] = [0x5A, 0x4D];
+pub(super) const MARK: [u8; 2] = [0x5A, 0x4D];
 
 /// What a record says behind its mark: "circuit number", "label", "15 trace
 /// characters", "flags".
@@ -124,7 +124,7 @@ fn repeat(all: &[Record]) -> (Option<Refusal>, usize) {
 
 /// All records of a good catalogue in their order, or its refusal: those of
 /// `listed`, "then 13".
-fn records(bytes: &[u8]) -> Result<Vec<Record>, Refusal> {
+pub(super) fn records(bytes: &[u8]) -> Result<Vec<Record>, Refusal> {
     let all = listed(bytes)?;
     match repeat(&all) {
         (Some(refusal), _) => Err(refusal),

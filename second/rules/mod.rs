@@ -10,6 +10,7 @@ mod parity;
 mod pointer;
 mod refusal;
 mod shape;
+mod sheet;
 mod sink;
 mod trace;
 mod unit;
@@ -18,6 +19,6 @@ mod word;
 // A program that takes these as a module need not use all of them.
 #[allow(unused_imports)]
 pub use self::{
-    catalogue::*, container::*, cut::*, monitor::*, parity::*, pointer::*, refusal::*, shape::*, sink::*, trace::*,
-    unit::*, word::*,
+    catalogue::*, container::*, cut::*, monitor::*, parity::*, pointer::*, refusal::*, shape::*, sheet::*,
+    sink::*, trace::*, unit::*, word::*,
 };

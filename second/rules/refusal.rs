@@ -4,7 +4,8 @@ use std::fmt;
 
 /// A refusal's number, and the places that it names: of a character "the place
 /// from 1"; in a catalogue "the record's place from 1", before that of the
-/// character; for 13 "later, then first". The others name none.
+/// character; for 13 "later, then first"; in a spreadsheet's text the line. The
+/// others name none.
 #[derive(Debug, Clone, PartialEq, Eq)]
 pub struct Refusal {
     pub number: u8,

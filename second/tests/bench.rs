@@ -236,7 +236,7 @@ fn lines_not_understood() {
         "src \"-\"", "src I", "src - -", "\t", "fill 00", "fill 0 00", "fill ag 00", "fill 00 00 00", "lens 1", "lens 4097 0",
         "lens 0000000001 0", "lens -1 0", "len 4097", "len", "len 1 1", "xor 2358 00", "xor 999999999 00", "xor 1000000000 00",
         "xor 0 0", "xor 1", "word 680", "word 68000", "word 68g0", "word 68 00", "payload 2", "payload", "parity 0",
-        "parity 00 00", "cat 0g", "cat \"\"", "lookup", "lookup x", "lookup 1234567890", "rx 01 20 0",
+        "parity 00 00", "cat 0g", "cat \"\"", "import 0", "import 0g", "import \"\"", "import 00 00", "Import", "export 0", "export 00 00", "lookup", "lookup x", "lookup 1234567890", "rx 01 20 0",
         "tx 01 202020202020202020202020202020 256 0", "tx 01 202020202020202020202020202020 0 2", "tx 01 \"\" 0", "tx 01 \"\" 0 0 0",
         "rx 01 202020202020202020202020202020 16", "rx 01 \"\"", "rx 01 \"\" 0 0", "rx \"01\" \"\" 0", "rx 01 \"\"0", "rx 01 \" 0",
         "rx 01 \"1234567890123456\" 0", "rx 00 \"\" 16", "rx 01 a\"\" 0", "sink 1", "show x", "ones 1", "run", "run 0", "run 10000",
@@ -350,6 +350,35 @@ fn the_check_of_a_catalogue_prints_its_pairs() {
         ran(format!("lookup 1 {good}\nlist {good}\n")),
         "found 12 4C494E452030303030303030303037 15\ncircuit label trace flags\n1 12 [LINE 0000000007] 15\n"
     );
+}
+
+#[test]
+fn import_and_export() {
+    // No blank where there are no bytes.
+    assert_eq!(ran("import\nexport\nimport  # none\nexport \n"), "import ok\nexport ok\nimport ok\nexport ok\n");
+    let (text, bytes) = (hex(b"7,12,\"03E5\",15\n"), "5A4D0007123033453520202020202020202020200F");
+    let whole = hex(b"7,12,\"03E5           \",15\n");
+    assert_eq!(
+        ran(format!("import {text}\nexport {bytes}\nimport {whole}\nexport {}\n", bytes.to_lowercase())),
+        format!("import ok {bytes}\nexport ok {whole}\nimport ok {bytes}\nexport ok {whole}\n")
+    );
+    let import = |text: &[u8]| ran(format!("import {}", hex(text)));
+    for (text, want) in [
+        (&b"7,12,\"03E5\",15"[..], "15 1"),
+        (b"7,12,\"a\",15\n7,12,03E5,15\n", "16 2"),
+        (b"7,12,\"1234567890123456\",15\n", "17 1"),
+        (&b"\n".repeat(513), "18 513"),
+        (b"7,12,\"a\",15\n7,12,\"a\",15\n", "13 2 1"),
+        (b"7,12,\"a\x80\",15\n", "20 1 2"),
+        (b"7,12,\"\",15\n", "21 1"),
+    ] {
+        assert_eq!(import(text), format!("import refused {want}\n"));
+    }
+    assert_eq!(ran("export 5A\nexport 5A4E\n"), "export refused 9\nexport refused 9\n");
+    assert_eq!(ran(format!("export {bytes}{bytes}\n")), "export refused 13 2 1\n");
+    // The longest text that is imported stands in one line of a script.
+    let longest: String = (1..=512).map(|k| format!("{k},12,{}{k:04},0\n", "x".repeat(80 - 10 - k.to_string().len()))).collect();
+    assert_eq!(import(longest.as_bytes()), "import refused 16 1\n");
 }
 
 #[test]

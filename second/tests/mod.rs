@@ -27,6 +27,7 @@ mod catalogue;
 mod container;
 mod pointer;
 mod shape;
+mod sheet;
 mod sink;
 mod trace;
 mod unit;
