@@ -46,6 +46,7 @@ MOST = 512
 RECORD = 21
 MARK = b"\x5a\x4d"
 TRACE = 15
+ROWS = 1048576  # of a sheet of Calc's
 
 
 class Refused(Exception):
@@ -131,7 +132,8 @@ def xlsx_cell(result, written):
         formula = str(getattr(written.value, "text", written.value)).removeprefix("=")
     value, form = result.value, result.number_format
     if value is None:
-        return Cell("unsaved", formula=formula) if formula else None
+        # a formula's result that is an empty text has its type all the same
+        return Cell("text" if result.data_type == "str" else "unsaved", "", "", formula) if formula else None
     if isinstance(value, bool):
         return Cell("boolean", value, formula=formula)
     if isinstance(value, datetime.timedelta):
@@ -143,11 +145,15 @@ def xlsx_cell(result, written):
         return Cell("date", datetime.datetime(*value.timetuple()[:6]), formula=formula)
     if isinstance(value, (int, float)):
         number = decimal.Decimal(repr(value))
+        # of the format as much as says what was typed; [$-407] in it names a language, [$€-407] a currency too
+        sign = re.search(r"[$€£]", re.sub(r"\[\$([^]-]*)-?[^]]*\]", r"\1", form))
         if re.search(r"0E[+-]", form):
-            shown = f"{value:.2E}"
+            looks_like = f"{value:.2E}"
+        elif form.endswith("%"):
+            looks_like = plain(number * 100) + "%"
         else:
-            shown = plain(number * 100) + "%" if form.endswith("%") else ""
-        return Cell("number", number, shown, formula)
+            looks_like = sign.group() if sign else ""
+        return Cell("number", number, looks_like, formula)
     return Cell("error" if result.data_type == "e" else "text", str(value), str(value), formula)
 
 
@@ -224,29 +230,30 @@ def with_exponent(number):
 
 
 def typed_number(cell):
-    number = cell.value
+    number, digits, exponent = cell.value, plain(cell.value), with_exponent(cell.value)
     if cell.shown.endswith("%"):
         return [plain(number * 100) + "%"]
-    exponent = with_exponent(number)
+    sign = re.search("[$€£]", cell.shown)
+    if sign:
+        return [sign.group() + digits, digits + sign.group()]
     if re.search(r"E[+-]?[0-9]", cell.shown):
         return exponent
-    digits = plain(number)
     if number != number.to_integral_value():
         return [digits] + exponent
     # with zeros before it, unless it ends with several
-    return exponent + [digits] + (["0" + digits, "00" + digits] if 0 <= number and number % 100 else [])
+    return exponent + [digits] + ([] if digits.endswith("00") or number < 0 else ["0" + digits, "00" + digits])
 
 
 def typed_date(cell):
     date = cell.value
     day, month, year, name = date.day, date.month, date.year % 100, date.strftime("%b").upper()
     forms = [f"{day}-{month}", f"{month}-{day}", f"{day}/{month}", f"{month}/{day}", f"{day}.{month}.", f"{name}-{day}"]
-    return forms + ([f"{name}-{year:02d}", f"{month}-{year:02d}"] if day == 1 else [])
+    return forms + ([f"{name}-{year:02d}", f"{month}-{year:02d}"] if day == 1 else []) + [f"{date:%Y-%m-%d}", "the like"]
 
 
 def typed_time(cell):
     hours, minutes, seconds = cell.value
-    return [f"{hours}:{minutes:02d}:{seconds:02d}"] if seconds else [f"{hours}:{minutes:02d}", f"{hours}:{minutes:02d}:00"]
+    return [f"{hours}:{minutes:02d}:{seconds:02d}"] if seconds else [f"{hours}:{minutes:02d}", f"{hours}:{minutes}", f"{hours}:{minutes:02d}:00"]
 
 
 def typed(cell):
@@ -338,8 +345,7 @@ def trace_faults(cell):
     if cell.kind != "text":
         if cell.formula:
             return [f"is {held(cell)}, from the formula ={cell.formula}"]
-        more = " or the like," if cell.kind == "date" else ""
-        return [f"is {held(cell)}; typed without an apostrophe before it, {either(typed(cell))}{more} becomes that"]
+        return [f"is {held(cell)}; typed without an apostrophe before it, {either(typed(cell))} becomes that"]
     text, faults = cell.value, []
     if len(text) > TRACE:
         behind = len(text) - len(text.rstrip(" "))
@@ -541,6 +547,10 @@ def write_ods(path, records):
         for cell in (number_cell(circuit), text_cell(label, text), text_cell(trace, text), number_cell(flags)):
             row.addElement(cell)
         table.addElement(row)
+    # Calc gives a column's style to those rows alone that the file has: so it has all of them
+    row = TableRow(numberrowsrepeated=ROWS - 1 - len(records))
+    row.addElement(TableCell(numbercolumnsrepeated=len(HEADING)))
+    table.addElement(row)
     document.spreadsheet.addElement(table)
     document.save(path)
 
