@@ -27,7 +27,8 @@ import sys
 import tempfile
 import time
 
-TOOL = pathlib.Path(__file__).parent.parent / "tools" / "sheet.py"
+ROOT = pathlib.Path(__file__).resolve().parent.parent
+TOOL = ROOT / "tools" / "sheet.py"
 CSV = "Text - txt - csv (StarCalc)"
 # Calc's options for comma-separated text: comma, double quote, UTF-8, from line 1; then what each column is; opening: a language,
 # quoted fields as text, special numbers looked for; saving: all text in quotes
@@ -205,6 +206,9 @@ TYPED = [
     ("12", "1E10", "the number 10000000000;", "1E10"),
     ("12", "00123", "the number 123;", "00123"),
     ("12", "12E1", "the number 120;", "12E1"),
+    ("12", "05E0", "the number 5;", "05E0"),
+    ("12", "00E5", "the number 0;", "00E5"),
+    ("12", "4", "the number 4;", "04"),
     ("12", "3E-5", "the number 0.00003;", "3E-5"),
     ("12", "1.5", "the number 1.5;", "1.5"),
     ("12", "-5", "the number -5;", "-5"),
@@ -358,6 +362,7 @@ def comma_separated(calc, imports):
     calc.both("card-as-text", "card.csv", QUOTED_AS_TEXT)
     yield
     good = line(1, "12", "first", 1) + line(2, "12", "second", 1)
+    page = (ROOT / "docs" / "SHEETS.md").read_text()
     for name, first, second, refusals in (
         ("careless", b"7,12,300000,15", b"8,FE,NORD-SUED 102,3", (16, 16)),
         ("special", b"7,12,3.00E+05,15", b"8,FE,NORD-SUED 102,3", (16, 16)),
@@ -369,6 +374,7 @@ def comma_separated(calc, imports):
     ):
         lines = calc.path(f"{name}-saved.csv").read_bytes().splitlines(keepends=True)
         equal(lines, [first + b"\n", second + b"\n"], f"what Calc saves, {name}")
+        check(f"| `{first.decode()}` | {refusals[0] or 'good'}" in page, f"docs/SHEETS.md has what Calc saves, {name}, and what import says", first, refusals)
         for text, refusal in zip(lines, refusals):
             wanted = f"{refusal} 3\n".encode() if refusal else b"".join(record(*each) for each in ((1, "12", "first", 1), (2, "12", "second", 1), (7, "12", "03E5", 15)))
             equal(run(imports, good + text).stdout, wanted, f"import of what Calc saves, {name}, as line 3")
@@ -390,8 +396,8 @@ def typing(calc, imports):
     cells = [(row, (str(row), label, name, "15")) for row, (label, name, _, _) in enumerate(TYPED, 1)]
     cells.append((len(TYPED) + 2, ("99", "05", '="03E7"', "1")))  # a label that becomes 5; a formula; a row left empty before it
     calc.both("typed", None, typed=[("ABCD"[k] + str(row), text) for row, texts in cells for k, text in enumerate(texts)])
-    # the same into columns that are preset as text, the last far below; but an apostrophe would be a part of the name there
-    names = [(label, name) for label, name, _, _ in TYPED if not name.startswith("'")] + [("05", "03E7"), ("5E", "last")]
+    # the same into columns that are preset as text, the last far below; an apostrophe is a part of the name there
+    names = [(label, name) for label, name, _, _ in TYPED] + [("05", "03E7"), ("5E", "last")]
     rows = [*range(2, 1 + len(names)), 3000]
     for kind in (".ods", ".xlsx"):
         for command in (("new",), ("sheet", "-")):
@@ -421,6 +427,7 @@ def typing(calc, imports):
                 wanted = b"".join(line(row, label.upper(), text, 15) for row, (label, text) in zip(rows, names))
                 equal((written, status), (wanted, 0), f"{name}: what is typed into text columns is what was typed")
                 check("row 1 is the heading, row 2 is line 1, row 3000 is line" in said, f"{name}: which row is which line", said)
+                check("['03E6]: it begins with an apostrophe" in said, f"{name}: an apostrophe is warned of", said)
                 equal(run(imports, written).stdout, b"".join(record(row, label, text, 15) for row, (label, text) in zip(rows, names)), f"{name}: import takes it")
 
 
@@ -429,7 +436,7 @@ def through_calc(calc, imports):
     catalogues = {
         "names": catalogue(NAMES),
         "most": catalogue(random_traces(random.Random(2), 512)),
-        "shelf": (TOOL.parent.parent / "examples" / "shelf.cat").read_bytes(),
+        "shelf": (ROOT / "examples" / "shelf.cat").read_bytes(),
         "none": b"",
     }
     for name, data in catalogues.items():
@@ -500,7 +507,7 @@ def refusals(calc, imports):
         equal(refused_rows(seen["too-many"][1]), {514}, f"too-many{kind}: the row of circuit 513")
         check("(refusal 18)" in seen["too-many"][1], f"too-many{kind}: refusal 18", seen["too-many"][1])
         equal((refused_rows(seen["beyond"][1]), "column E" in seen["beyond"][1]), ({2}, True), f"beyond{kind}: a fifth column")
-        equal((refused_rows(seen["swapped"][1]), "column B" in seen["swapped"][1]), ({1, 2} & refused_rows(seen["swapped"][1]) | {1}, True), f"swapped{kind}: columns in another order")
+        equal((refused_rows(seen["swapped"][1]), "column B" in seen["swapped"][1]), ({1}, True), f"swapped{kind}: columns in another order")
         equal(refused_rows(seen["label"][1]), {1}, f"label{kind}: a row with a label is no heading")
         equal((seen["gaps"][0], seen["gaps"][2]), (wanted[: wanted.index(b"3,")] + line(2, "12", "LINE 3", 1), 0), f"gaps{kind}: empty rows and a heading are left out")
         check("row 2 is the heading, row 5 is line 1, row 8 is line 3" in seen["gaps"][1], f"gaps{kind}: which row is which line", seen["gaps"][1])
@@ -613,14 +620,15 @@ def files(calc, imports):
 
 
 def refused(command, data, wanted):
-    """One line, which is no catalogue, and words that name its place."""
+    """One line, which is no catalogue, and words that name the line or the record."""
     ran = run(command, data)
     words = wanted.split()
     name = pathlib.Path(command[0]).name
     what = f"{name} of {data[:60]!r}.., {len(data)} bytes"
     equal(ran.stdout, wanted.encode() + b"\n", what)
     check(len(ran.stdout) % 21 != 0, f"{what}: its line is no whole number of records", ran.stdout)
-    check(re.search(rb"[a-z]{3,} [a-z]{2,}", ran.stderr) and all(re.search(rf"\b{place}\b".encode(), ran.stderr) for place in words[1:]), f"{what}: words on standard error, with the places", ran.stderr)
+    told = len(re.findall(rb"[A-Za-z]+", ran.stderr)) >= 3 and all(re.search(rf"\b{place}\b".encode(), ran.stderr) for place in words[1:2])
+    check(told, f"{what}: words on standard error, with the line or record", ran.stderr)
 
 
 def streams(command, taken, given):

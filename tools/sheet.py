@@ -183,8 +183,8 @@ TABLES = {".ods": ods_tables, ".xlsx": xlsx_tables}
 def kind_of(path):
     kind = os.path.splitext(path)[1].lower()
     if kind not in TABLES:
-        hint = "; comma-separated lines go to import itself, if their traces still stand in quotes" if kind in (".csv", ".txt") else ""
-        raise Refused(f"neither .ods nor .xlsx{hint}")
+        hint = "comma-separated lines go to import itself, if their traces still stand in quotes" if kind in (".csv", ".txt") else "save it as one of them"
+        raise Refused(f"neither .ods nor .xlsx: {hint}")
     return kind
 
 
@@ -193,7 +193,7 @@ def rows_of(path, name):
     read = TABLES[kind_of(path)]
     try:
         tables = {title: [row for row in rows if not all(map(blank, row[1].values()))] for title, rows in read(path)}
-    except (Refused, OSError):
+    except (Refused, OSError, ImportError):
         raise
     except Exception as error:  # whatever the readers of the two kinds stumble over
         raise Refused(f"cannot be read as a spreadsheet: {type(error).__name__}: {error}") from error
@@ -218,10 +218,10 @@ def plain(number):
 
 def with_exponent(number):
     """What is typed with an E and makes this number: of 300000 03E5, 3E5, 30E4."""
+    if number == 0:
+        return ["00E5", "0E5", "the like"]
     sign, digits, exponent = number.normalize().as_tuple()
     before, digits = "-" * sign, "".join(map(str, digits))
-    if exponent == 0 or digits == "0":
-        return []
     forms = [f"{before}0{digits}E{exponent}"] if len(digits) == 1 else []
     forms.append(f"{before}{digits}E{exponent}")
     if exponent > 1:
@@ -238,10 +238,10 @@ def typed_number(cell):
         return [sign.group() + digits, digits + sign.group()]
     if re.search(r"E[+-]?[0-9]", cell.shown):
         return exponent
-    if number != number.to_integral_value():
+    if number < 0 or number != number.to_integral_value():
         return [digits] + exponent
-    # with zeros before it, unless it ends with several
-    return exponent + [digits] + ([] if digits.endswith("00") or number < 0 else ["0" + digits, "00" + digits])
+    # where it ends with zeros an E was typed, more likely than zeros before it
+    return exponent + [digits] if digits.endswith("00") else [digits, "0" + digits, "00" + digits] + exponent
 
 
 def typed_date(cell):
