@@ -22,10 +22,12 @@ import os
 import pathlib
 import random
 import re
+import signal
 import subprocess
 import sys
 import tempfile
 import time
+import zipfile
 
 ROOT = pathlib.Path(__file__).resolve().parent.parent
 TOOL = ROOT / "tools" / "sheet.py"
@@ -102,8 +104,9 @@ def tool():
 
 # Calc.
 
-# Plays a script of lines with a TAB between their parts: open URL FILTER OPTIONS, type CELL TEXT, save URL FILTER OPTIONS.
-# Text is entered as by the keyboard, so that Calc makes of it what it makes of what a clerk types.
+# Plays a script of lines with a TAB between their parts: open URL FILTER OPTIONS, type CELL TEXT, save URL FILTER OPTIONS, close.
+# Text is entered as by the keyboard, so that Calc makes of it what it makes of what a clerk types. Between its steps Basic would
+# let Calc open the small windows of its view, and without those files of theirs that the packages without a screen lack Calc ends: hence EnableReschedule.
 BASIC = """
 Sub Play(script As String)
     Dim opened(2) As New com.sun.star.beans.PropertyValue
@@ -111,6 +114,7 @@ Sub Play(script As String)
     Dim entered(0) As New com.sun.star.beans.PropertyValue
     Dim saved(1) As New com.sun.star.beans.PropertyValue
     Dim words As String
+    EnableReschedule(False)
     opened(0).Name = "Hidden"
     opened(0).Value = True
     opened(1).Name = "FilterName"
@@ -139,6 +143,7 @@ Sub Play(script As String)
             saved(0).Value = part(2)
             saved(1).Value = part(3)
             sheet.storeToURL(part(1), saved())
+        Case "close"
             sheet.close(True)
         End Select
     Loop
@@ -158,35 +163,39 @@ MODULE = """<?xml version="1.0" encoding="UTF-8"?>
 
 
 class Calc:
-    """One script for one start of Calc. A sheet is opened, typed into and saved once: saved twice it may end Calc."""
+    """One script for one start of Calc."""
 
     def __init__(self, folder):
         self.folder, self.script, self.files = folder, [], []
 
     def start(self, *words):
-        profile = f"-env:UserInstallation=file://{self.folder}/profile"
-        ran = run(["soffice", profile, "--headless", *map(str, words)], cwd=self.folder, env={**os.environ, "LC_ALL": "C.UTF-8"})
-        if ran.returncode != 0:
-            sys.exit(f"sheets: soffice ended with {ran.returncode}: {ran.stderr.decode(errors='replace')}")
+        command = ["soffice", f"-env:UserInstallation=file://{self.folder}/profile", "--headless", *words]
+        # in a group of its own, as Calc is a child of soffice
+        calc = subprocess.Popen(
+            command, cwd=self.folder, env={**os.environ, "LC_ALL": "C.UTF-8"}, stdin=subprocess.DEVNULL, stdout=subprocess.PIPE, stderr=subprocess.STDOUT, start_new_session=True
+        )
+        try:
+            said = calc.communicate(timeout=300)[0].decode(errors="replace")
+        except subprocess.TimeoutExpired:
+            os.killpg(calc.pid, signal.SIGKILL)
+            sys.exit("sheets: Calc does not end")
+        if calc.returncode != 0:
+            sys.exit(f"sheets: soffice ended with {calc.returncode}: {said}")
 
     def path(self, name):
         return self.folder / name
 
-    def opened(self, name, options="", typed=()):
-        """Opens a file, or a new sheet, and types."""
-        url = self.path(name).as_uri() if name else "private:factory/scalc"
-        self.script.append(("open", url, CSV if name and name.endswith(".csv") else "", options))
+    def saves(self, names, source, options="", typed=(), saving=""):
+        """A file, or a new sheet, is opened, typed into, and saved by each of the names."""
+        url = self.path(source).as_uri() if source else "private:factory/scalc"
+        self.script.append(("open", url, CSV if source and source.endswith(".csv") else "", options))
         self.script += [("type", f"${cell[0]}${cell[1:]}", text) for cell, text in typed]
-
-    def saved(self, name, options=""):
-        self.script.append(("save", self.path(name).as_uri(), FILTERS[self.path(name).suffix], options))
-        self.files.append(name)
+        self.script += [("save", self.path(name).as_uri(), FILTERS[self.path(name).suffix], saving) for name in names]
+        self.script.append(("close",))
+        self.files += names
 
     def both(self, name, source, options="", typed=()):
-        """A file opened, typed into and saved as NAME.ods, and all of it once more as NAME.xlsx."""
-        for kind in (".ods", ".xlsx"):
-            self.opened(source, options, typed)
-            self.saved(name + kind)
+        self.saves([name + ".ods", name + ".xlsx"], source, options, typed)
 
     def play(self):
         library = self.path("profile/user/basic/Standard")
@@ -357,10 +366,12 @@ def comma_separated(calc, imports):
         ("card-as-text", "card.csv", QUOTED_AS_TEXT, PLAIN),
         ("card-quotes-all", "card.csv", QUOTED_AS_TEXT, QUOTE_ALL_TEXT),
     ):
-        calc.opened(source, opening)
-        calc.saved(f"{name}-saved.csv", saving)
+        calc.saves([f"{name}-saved.csv"], source, opening, saving=saving)
     calc.both("card-as-text", "card.csv", QUOTED_AS_TEXT)
+    calc.path("needed.csv").write_bytes(line(9, "FE", "A, B", 1) + line(10, "FE", 'a "q" b', 1))
+    calc.saves(["needed-saved.csv"], "needed.csv", QUOTED_AS_TEXT, saving=PLAIN)
     yield
+    equal(calc.path("needed-saved.csv").read_bytes(), calc.path("needed.csv").read_bytes(), "Calc puts quotes around a text that has a comma or a quote in it, and no others")
     good = line(1, "12", "first", 1) + line(2, "12", "second", 1)
     page = (ROOT / "docs" / "SHEETS.md").read_text()
     for name, first, second, refusals in (
@@ -388,7 +399,8 @@ def careless(calc, imports):
     for name in ("plain.ods", "card.ods"):
         seen = sheet_py("lines", calc.path(name))
         nothing_written(seen, name)
-        check("row 1: the trace (C1) is the number 300000;" in seen[1] and "03E5," in seen[1] and refused_rows(seen[1]) == {1}, f"{name}: 03E5 that became 300000", seen[1])
+        words = "row 1: the trace (C1) is the number 300000; typed without an apostrophe before it, 03E5, 3E5, 30E4 or 300000 becomes that\n"
+        check(words in seen[1] and refused_rows(seen[1]) == {1}, f"{name}: 03E5 that became 300000", seen[1])
 
 
 def typing(calc, imports):
@@ -405,7 +417,12 @@ def typing(calc, imports):
             texts = [(row, (str(row), label, name, "15")) for row, (label, name) in zip(rows, names)]
             calc.both(f"{command[0]}{kind[1:]}-typed", f"{command[0]}{kind}", typed=[("ABCD"[k] + str(row), text) for row, given in texts for k, text in enumerate(given)])
     yield
+    with zipfile.ZipFile(calc.path("typed.ods")) as parts:
+        check(b"<text:p>3.00E+05</text:p>" in parts.read("content.xml"), "Calc shows 3.00E+05 where 03E5 was typed")
     for kind in (".ods", ".xlsx"):
+        cells = dict(tool().rows_of(str(calc.path("typed" + kind)), None))
+        apostrophe = [name for _, name, _, _ in TYPED].index("'03E6") + 1
+        equal(cells[apostrophe][2][:2], ("text", "03E6"), f"typed{kind}: an apostrophe before a name makes it a text, and is no part of it")
         seen = sheet_py("lines", calc.path("typed" + kind))
         nothing_written(seen, "typed" + kind)
         for row, (_, name, held, was) in enumerate(TYPED, 1):
@@ -549,8 +566,7 @@ def files(calc, imports):
     book.active.append([2.5, 12, "circuit", 1])
     book.active.append([3, 100, "label too", -1])
     book.save(calc.path("formula.xlsx"))
-    calc.opened("tables.xlsx")
-    calc.saved("tables.ods")
+    calc.saves(["tables.ods"], "tables.xlsx")
     yield
     for kind in (".ods", ".xlsx"):
         seen = sheet_py("lines", calc.path("tables" + kind))
