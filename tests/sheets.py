@@ -322,12 +322,12 @@ def catalogue(traces):
 def random_traces(random, count):
     """Different traces, with much of what is quoted, doubled or taken for something else."""
     letters = "  \"\"\"'',,=+-#;:/%.E05AZaz~!"
-    traces = set()
+    traces = {}  # in the order that they were made
     while len(traces) < count:
         trace = "".join(random.choice(letters) for _ in range(random.randint(1, 15)))
         if trace.strip():
-            traces.add(trace.ljust(15))
-    return sorted(traces, key=lambda _: random.random())
+            traces[trace.ljust(15)] = None
+    return list(traces)
 
 
 def text_of(rows):
