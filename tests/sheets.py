@@ -422,7 +422,7 @@ def typing(calc, imports):
     for kind in (".ods", ".xlsx"):
         cells = dict(tool().rows_of(str(calc.path("typed" + kind)), None))
         apostrophe = [name for _, name, _, _ in TYPED].index("'03E6") + 1
-        equal(cells[apostrophe][2][:2], ("text", "03E6"), f"typed{kind}: an apostrophe before a name makes it a text, and is no part of it")
+        equal(cells.get(apostrophe, {}).get(2, ())[:2], ("text", "03E6"), f"typed{kind}: an apostrophe before a name makes it a text, and is no part of it")
         seen = sheet_py("lines", calc.path("typed" + kind))
         nothing_written(seen, "typed" + kind)
         for row, (_, name, held, was) in enumerate(TYPED, 1):
@@ -466,11 +466,15 @@ def through_calc(calc, imports):
     equal(sheet_py("sheet", calc.path("escaped.cat"), calc.path("escaped.ods")), (b"", "", 0), "escaped as .ods: it says nothing")
     calc.both("escaped-again", "escaped.ods")
     yield
+    with zipfile.ZipFile(calc.path("names.ods")) as parts:
+        loose = re.findall(rb"<text:p> [^<]*|<text:p>[^<]*  [^<]*", parts.read("content.xml"))
+    equal(loose, [], "names.ods: blanks that a reader may drop, as OpenDocument has it, though Calc does not")
     for name, data in catalogues.items():
         for file in [name + ".ods", name + ".xlsx"] + [f"{name}{kind}-again{again}" for kind in ("ods", "xlsx") for again in (".ods", ".xlsx") if name != "none"]:
             written, said, status = sheet_py("lines", calc.path(file))
             check(status == 0 and not refused_rows(said), f"{file}: nothing is refused", said)
             equal(run(imports, written).stdout, data, f"{file}: imported, it is the catalogue again")
+            check(b' ",' not in written, f"{file}: the blanks at a trace's end are not in the sheet", written)
             check(("has no circuits" in said) == (name == "none"), f"{file}: a sheet without circuits is warned of", said)
     for file in ("escaped.ods", "escaped-again.ods"):
         equal(run(imports, sheet_py("lines", calc.path(file))[0]).stdout, catalogue(ESCAPED), f"{file}: imported, it is the catalogue again")
@@ -517,8 +521,10 @@ def refusals(calc, imports):
             )
         equal(refused_rows(seen["repeated"][1]), {3, 4}, f"repeated{kind}: which rows repeat a trace")
         for row, first in ((3, 2), (4, 1)):
-            check(f"as in row {first} (refusal 13)" in " ".join(*said_of(seen["repeated"][1], row)), f"repeated{kind}: row {row} repeats row {first}", seen["repeated"][1])
-        equal(said_of(seen["repeated"][1], 5, True)[0][-4:], ["differ", "in", "case", "only"], f"repeated{kind}: a twin in other letters")
+            words = said_of(seen["repeated"][1], row)
+            check(any(f"as in row {first} (refusal 13)" in " ".join(each) for each in words), f"repeated{kind}: row {row} repeats row {first}", words)
+        words = said_of(seen["repeated"][1], 5, True)
+        check(any(each[-4:] == ["differ", "in", "case", "only"] for each in words), f"repeated{kind}: a twin in other letters", words)
         wanted = b"".join(line(row[0], *row[1:4]) for row in most[:512])
         equal((seen["most"][0], seen["most"][2]), (wanted, 0), f"most{kind}: 512 circuits and a heading")
         equal(refused_rows(seen["too-many"][1]), {514}, f"too-many{kind}: the row of circuit 513")

@@ -516,7 +516,7 @@ def write_ods(path, records):
         document.automaticstyles.addElement(each)
 
     def paragraph(words):
-        """Blanks at the start, and all but the first of several, are elements of their own: as characters they may be lost."""
+        """Blanks at the start, and several together, are elements of their own: OpenDocument lets a reader drop such characters."""
         p = P()
         for k, part in enumerate(re.split(r"((?:^ | (?= )) *)", words)):
             if k % 2:
