@@ -13,6 +13,7 @@ files are opened with and without care, and sheets are opened and saved again, .
 - Python's csv module reads from export's text what the records hold, for some hundreds of random catalogues;
 - import and export at their streams: one line for what is refused, words on standard error, input in pieces and far too long.
 """
+import contextlib
 import csv
 import functools
 import html
@@ -497,7 +498,7 @@ def refusals(calc, imports):
         "most": [heading] + most[:512],
         "too-many": [heading] + most,
         "beyond": [most[0], (*most[1][:4], "a remark"), most[2]],
-        "swapped": [("circuit", "trace", "label", "flags", ""), most[0]],
+        "swapped": [("Circuit", "Trace", "Sign", "Flags", ""), most[0]],
         "label": [("Nr", "FE", "NAME", "X", ""), most[0]],
         "gaps": [("", "", "", "", ""), heading, ("", "", "", "", ""), ("  ", "", " ", "", " "), most[0], ("", "", "", "", ""), most[1], most[1][:1] + most[2][1:], ("", "", " ", "", "")],
         "no-heading": most[:2],
@@ -660,12 +661,12 @@ def streams(command, taken, given):
     equal((ran.stdout, ran.stderr), (given, b""), f"{name} of a good file")
     ran = run(command)
     equal((ran.stdout, ran.stderr), (b"", b""), f"{name} of no bytes")
-    slow = subprocess.Popen(command, stdin=subprocess.PIPE, stdout=subprocess.PIPE)
-    for piece in (taken[:1], taken[1:9], taken[9:40], taken[40:]):
-        slow.stdin.write(piece)
-        slow.stdin.flush()
-        time.sleep(0.05)
-    equal(slow.communicate(timeout=60)[0], given, f"{name} of a file in pieces")
+    with subprocess.Popen(command, stdin=subprocess.PIPE, stdout=subprocess.PIPE, bufsize=0) as slow:
+        with contextlib.suppress(BrokenPipeError):  # where it does not wait for all of them
+            for piece in (taken[:1], taken[1:9], taken[9:40], taken[40:]):
+                slow.stdin.write(piece)
+                time.sleep(0.05)
+        equal(slow.communicate(timeout=60)[0], given, f"{name} of a file in pieces")
     for argument in ("--help", "file"):
         ran = run(command + [argument], taken)
         check(ran.stdout == b"" and ran.stderr.startswith(f"usage: {name} <".encode()), f"{name} {argument}: usage, and nothing else", ran.stdout, ran.stderr)
@@ -723,6 +724,8 @@ def programs(imports, exports, lists):
         (good[0] + trace(b"A" * 15 + b" "), "17 2"),
         (trace(b"A" * 71), "17 1"),  # 80 bytes
         (trace(b"A" * 72), "15 1"),
+        (trace(b"A" * 71) * 512, "17 1"),  # the longest text that may be good, by its length
+        (trace(b"A" * 71) * 512 + b"x", "18 513"),
         (good[0] + trace(b"A" * 16) + b"7,12,03E5,15\n", "17 2"),
         (b'0,12,"a",1\n', "11 1"),
         (b'1,00,"a",1\n', "4 1"),
@@ -758,7 +761,10 @@ def programs(imports, exports, lists):
         fields = [(source.choice((1, 9, 10, 999, 1000, 9999, source.randint(1, 9999))), f"{source.randint(1, 254):02X}", each, source.randint(0, 15)) for each in traces]
         data = b"".join(record(*each) for each in fields)
         ran = run(exports, data)
-        read = list(csv.reader(io.StringIO(ran.stdout.decode("ascii"), newline=""), strict=True))
+        try:
+            read = list(csv.reader(io.StringIO(ran.stdout.decode("ascii"), newline=""), strict=True))
+        except csv.Error as error:
+            read = f"{error}: {ran.stdout[:200]!r}"
         equal((read, ran.stderr), ([[str(circuit), label, each, str(flags)] for circuit, label, each, flags in fields], b""), f"csv.reader of export's text, catalogue {k}")
         equal(run(imports, ran.stdout).stdout, data, f"import of export's text, catalogue {k}")
         if lists and k < 20:
