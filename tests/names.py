@@ -185,12 +185,24 @@ PUBLIC = re.compile(r"\bpub\b(?:[^;{}=:]|::)*?\bfn\b(?:\s+(?P<name>\w+))?")
 Signature = collections.namedtuple("Signature", "parameters result")
 
 
+# what programs share, and nothing but programs may rest on
+SHARED = "programs"
+
+
+def own_part(crate, other):
+    """Whether a crate may rest on another, if that is a program's: its own part, or what programs share."""
+    return not program_of(other) or program_of(crate) == program_of(other) or bool(program_of(crate)) and other == SHARED
+
+
 @functools.cache
 def program_of(crate):
     """The program that a crate is, or is a part of; nothing where it is a library of its own.
 
-    A crate with a main.rt is a program, and one with a program's name and an underscore in front is a part of it: their functions are the program's own.
+    A crate with a main.rt is a program, and one with a program's name and an underscore in front is a part of it: their functions are the program's own. So are those of the
+    crate `programs`, which all of them share.
     """
+    if crate == SHARED:
+        return SHARED
     programs = [path.parent.parent.name for path in ROOT.glob("crates/*/src/main.rt")]
     return next((program for program in programs if crate == program or crate.startswith(program + "_")), None)
 
@@ -245,7 +257,7 @@ def public_functions():
 @functools.cache
 def strays():
     faults = [f"crates.txt: {crate} rests on {other}, a part of the program {program_of(other)}"
-              for _, own in groups() for crate, on in own.items() for other in on if program_of(other) and program_of(crate) != program_of(other)]
+              for _, own in groups() for crate, on in own.items() for other in on if not own_part(crate, other)]
     for crate, path in rt_files("**/*.rt"):
         text = code(path)
         for found in PUBLIC.finditer(text):

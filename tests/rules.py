@@ -80,7 +80,7 @@ RULED = re.compile(r"\[(\d+\.\d+)\]\(CARD\.md#(r\d+-\d+)\) +\S")
 NAMED = re.compile(rf"\b(?:[Rr]ules?|CARD(?:\.md)?)\s+{NUMBER}(?:(?:,| to| and| or)\s+(?:rules?\s+)?{NUMBER})*")
 ANCHORED = re.compile(r"CARD\.md#([\w-]+)")
 # what a definition of a refusal's number says; a row of the pointer table, as it is proved
-REFUSED = re.compile(r"^(?:numberOf|traceNumber|catalogueNumber) .* = (\d+)$", re.M)
+REFUSED = re.compile(r"^(?:numberOf|traceNumber|catalogueNumber|lineNumber|importNumber) .* = (\d+)$", re.M)
 PROVED = re.compile(r"^ +(?:∷ )?row (\d+) 0x([0-9a-f]{4}) \(?(?:Adjusted )?(\w+).* (\d+)$", re.M)
 TAKEN = {"NewData": "new data"}
 

@@ -76,10 +76,10 @@ fn import(s: &[u8]) {
             say_bytes(b"import ok", &out[..n]);
         }
         Imported::Refused(x) => {
-            let places = importing::named(x);
+            let places = sheet_refusals::named(x);
             bench_say::refused(
                 b"import refused ",
-                importing::number(x),
+                sheet_refusals::number(x),
                 places.first,
                 places.second,
             );

@@ -6,17 +6,17 @@ fn export(s: &[u8]) {
     let mut text = [0u8; 23552];
     match exporting::export(s, &mut text) {
         Exported::Text(n) => {
-            program::print(b"export", &text[..n]);
+            programs::print(b"export", &text[..n]);
         }
         Exported::Not(x) => {
-            program::refuse(b"export", b"record", records::number(x), records::named(x));
+            programs::refuse(b"export", b"record", records::number(x), records::named(x));
         }
     }
 }
 
 fn main() {
     if 1 < os::arg_count() {
-        program::complain(
+        programs::complain(
             b"usage: export < CATALOGUE > TEXT\nprints a line for each circuit, as 7,12,\"03E5           \",15; for a refused catalogue one line instead, the refusal's number and the places, and says it in words here\n",
         );
         return;
@@ -25,8 +25,8 @@ fn main() {
     let mut file = [0u8; 10753];
     let n = io::read_full(STDIN_FILENO, &mut file);
     if n < 10753 {
-        if !program::ended() {
-            program::cannot_read(b"export");
+        if !programs::ended() {
+            programs::cannot_read(b"export");
             return;
         }
     }

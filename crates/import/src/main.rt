@@ -1,6 +1,6 @@
 // Imports comma-separated text from standard input: prints the catalogue, or for a refused text the one line of its refusal.
 use importing::Imported;
-use importing::Refusal;
+use sheet_refusals::Refusal;
 use libc::STDIN_FILENO;
 
 const LF: u8 = 0x0a;
@@ -58,11 +58,11 @@ fn read_rest(start: Read) -> Read {
 }
 
 fn refuse(x: Refusal) {
-    program::refuse(
+    programs::refuse(
         b"import",
         b"line",
-        importing::number(x),
-        importing::named(x),
+        sheet_refusals::number(x),
+        sheet_refusals::named(x),
     );
 }
 
@@ -71,7 +71,7 @@ fn import(s: &[u8]) {
     match importing::import(s, &mut catalogue) {
         Imported::Good(k) => {
             let n = 21 * k;
-            program::print(b"import", &catalogue[..n]);
+            programs::print(b"import", &catalogue[..n]);
         }
         Imported::Refused(x) => {
             refuse(x);
@@ -81,7 +81,7 @@ fn import(s: &[u8]) {
 
 fn main() {
     if 1 < os::arg_count() {
-        program::complain(
+        programs::complain(
             b"usage: import < TEXT > CATALOGUE\nTEXT has lines as 7,12,\"03E5\",15: circuit number, label in two hex digits, trace in double quotes, flags\nprints the catalogue; for a refused text one line instead, the refusal's number and the places, and says it in words here\n",
         );
         return;
@@ -95,8 +95,8 @@ fn main() {
         open: false,
     };
     let r = read_rest(read_on(start, &text[..n]));
-    if !program::ended() {
-        program::cannot_read(b"import");
+    if !programs::ended() {
+        programs::cannot_read(b"import");
         return;
     }
     if too_many(r) {

@@ -15,10 +15,9 @@ use Rattle.refusals.specs.Refusals.{Fault, due, noAt, givenAt, rowsAt, saidBy}
 use Rattle.refusals.proofs.Wrong.{due-false, Numbered, numbered-row, numbered-rows, numbered-both}
 use Rattle.refusals.proofs.Joined.{joined-none, rows-none}
 use Rattle.records.specs.Record.{oldKind}
-use Rattle.records.specs.Refusals.{catalogueNumber, cataloguePlaces, catalogueSays, placesGiven}
+use Rattle.records.specs.Refusals.{catalogueNumber, cataloguePlaces, catalogueSays}
 use Rattle.records.specs.Faults.{firstFault}
 use Rattle.records.specs.declared.Refusal as records-refusal
-use Rattle.records.specs.declared.PlaceList.{PlaceList}
 use Rattle.records.proofs.Numbers.{behind}
 use Rattle.records.proofs.Places.{old-serves}
 use Rattle.catalogue.specs.Catalogue.{faults, records, catalogueAnswer, checkOf, Checks}
@@ -26,13 +25,14 @@ use Rattle.catalogue.specs.declared.Checked.{Checked}
 use Rattle.catalogue.specs.declared.Checked.the-variants as checked
 use Rattle.catalogue.specs.declared.Counted.{Counted}
 use Rattle.catalogue.proofs.Answers.{good-length, checked-is, file-numbered}
-use Rattle.sheet_line.specs.Line.{lineFaults, lineNumber}
+use Rattle.sheet_line.specs.Line.{lineFaults}
 use Rattle.sheet_line.specs.declared.LineFault.{LineFault}
 use Rattle.sheet_line.proofs.Ways.{lineSays, line-numbered}
-use Rattle.importing.specs.Import.{Cut, linesOf, mostLines, faultsFrom, importFaults, firstOf, importAnswer, importNumber, importPlaces, importSays, importedSays, resultOf, importOf, leftBy, Imports}
+use Rattle.importing.specs.Import.{Cut, linesOf, mostLines, faultsFrom, importFaults, firstOf, importAnswer, importedSays, resultOf, importOf, leftBy, Imports}
 use Rattle.importing.specs.Inner.{Sounds, checkedAs, Made}
-use Rattle.importing.specs.declared.Refusal.{Refusal}
-use Rattle.importing.specs.declared.Refusal.the-variants.{TooMany, Line, Catalogue}
+use Rattle.sheet_refusals.specs.Refusals.{importNumber, importPlaces, importSays}
+use Rattle.sheet_refusals.specs.declared.Refusal.{Refusal}
+use Rattle.sheet_refusals.specs.declared.Refusal.the-variants.{TooMany, Line, Catalogue}
 use Rattle.importing.specs.declared.First.{First}
 use Rattle.importing.specs.declared.First.the-variants.{Of, Nothing}
 use Rattle.importing.specs.declared.Imported.{Imported}
@@ -143,14 +143,6 @@ module _ (s b : List ℕ) (n : ℕ) (is-n : n ≡ length (linesOf s)) where
 
       pub import-made : (a : List ℕ) (r : Imported) → f ≡ Nothing → Made (resultOf s) b a r → Imports s b a r
       import-made a r e v = imports s b a r (v .answer-is ∙ made-answer e) (v .now-is)
-
--- ---- numbers and places, of what is equal to a case
-
-pub number-as : (x y : Refusal) (n : ℕ) → x ≡ y → n ≡ importNumber y → n ≡ importNumber x
-number-as x y n e h = rw e h
-
-pub places-as : (x y : Refusal) (r : PlaceList) → x ≡ y → r ≡ placesGiven (importPlaces y) → r ≡ placesGiven (importPlaces x)
-places-as x y r e h = rw e h
 
 -- ---- what a caller of the import rests on
 

@@ -14,8 +14,8 @@ use Rattle.sheet_line.specs.declared.LineAnswer.the-variants.{Passes, Wrong}
 use Rattle.sheet_line.proofs.Ways.{sound}
 use Rattle.importing.specs.Import.{Cut, linesOf, faultsFrom, firstOf}
 use Rattle.importing.specs.Inner.{Sounds, none, more}
-use Rattle.importing.specs.declared.Refusal.{Refusal}
-use Rattle.importing.specs.declared.Refusal.the-variants.{Line}
+use Rattle.sheet_refusals.specs.declared.Refusal.{Refusal}
+use Rattle.sheet_refusals.specs.declared.Refusal.the-variants.{Line}
 use Rattle.importing.specs.declared.First.{First}
 use Rattle.importing.specs.declared.First.the-variants.{Of, Nothing}
 use Rattle.importing.proofs.Walk.{lineAt, nextOf, lines-at, lines-over}

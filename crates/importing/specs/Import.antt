@@ -9,12 +9,12 @@ use lib.ListN.{length}
 use Rattle.copier.specs.Put.{put}
 use Rattle.refusals.specs.Refusals.{Fault, givenAt, rowsAt, saidBy}
 use Rattle.records.specs.Record.{oldKind}
-use Rattle.records.specs.Refusals.{catalogueNumber, cataloguePlaces}
 use Rattle.catalogue.specs.Catalogue.{faults, records}
-use Rattle.sheet_line.specs.Line.{lineFaults, lineNumber, recordOf}
+use Rattle.sheet_line.specs.Line.{lineFaults, recordOf}
 use Rattle.sheet_line.specs.declared.LineFault.{LineFault}
-use Rattle.importing.specs.declared.Refusal.{Refusal}
-use Rattle.importing.specs.declared.Refusal.the-variants.{TooMany, Line, Catalogue}
+use Rattle.sheet_refusals.specs.Refusals.{importSays}
+use Rattle.sheet_refusals.specs.declared.Refusal.{Refusal}
+use Rattle.sheet_refusals.specs.declared.Refusal.the-variants.{TooMany, Line, Catalogue}
 use Rattle.importing.specs.declared.First.{First}
 use Rattle.importing.specs.declared.First.the-variants.{Of, Nothing}
 use Rattle.importing.specs.declared.Imported.{Imported}
@@ -92,22 +92,7 @@ unfoldable pub leftBy : Imported → List ℕ → List ℕ → List ℕ
 leftBy (Good n) result before = put 0 result before
 leftBy (Refused x) result before = before
 
--- ---- numbers and places
-
-unfoldable pub importNumber : Refusal → ℕ
-importNumber TooMany = 18
-importNumber (Line x place) = lineNumber x
-importNumber (Catalogue x) = catalogueNumber x
-
-unfoldable pub importPlaces : Refusal → List ℕ
-importPlaces TooMany = 513 ∷ []
-importPlaces (Line x place) = place ∷ []
-importPlaces (Catalogue x) = cataloguePlaces x
-
--- what a refusal says, and what an answer says: 0 and how many records, or the refusal's number and its places
-unfoldable pub importSays : Refusal → List ℕ
-importSays x = importNumber x ∷ importPlaces x
-
+-- what an answer says: 0 and how many records, or the refusal's number and its places
 unfoldable pub importedSays : Imported → List ℕ
 importedSays (Good n) = 0 ∷ n ∷ []
 importedSays (Refused x) = importSays x

@@ -8,7 +8,7 @@ use Rattle.catalogue.specs.declared.Checked.{Checked}
 use Rattle.catalogue.specs.declared.Checked.the-variants as checked
 use Rattle.sheet_line.specs.Inner.{Sound}
 use Rattle.importing.specs.Import.{Cut, leftBy}
-use Rattle.importing.specs.declared.Refusal.the-variants.{Catalogue}
+use Rattle.sheet_refusals.specs.declared.Refusal.the-variants.{Catalogue}
 use Rattle.importing.specs.declared.Imported.{Imported}
 use Rattle.importing.specs.declared.Imported.the-variants.{Good, Refused}
 

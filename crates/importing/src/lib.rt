@@ -1,24 +1,15 @@
-// The import of comma-separated text into a lent catalogue. What it is stands in specs/Import.antt, and one line in the crate `sheet_line`; specs/Inner.antt has what
-// the functions inside ask and answer. The program `import` prints what it gives.
+// The import of comma-separated text into a lent catalogue. What it is stands in specs/Import.antt, one line in the crate `sheet_line`, and its refusals in `sheet_refusals`;
+// specs/Inner.antt has what the functions inside ask and answer. The program `import` prints what it gives.
 use catalogue::Checked;
-use records::PlaceList;
+use sheet_refusals::Refusal;
 use sheet_line::LineAnswer;
-use sheet_line::LineFault;
 ghost use mathlib.Core.Path.{_≡_};
 ghost use Prim.Native.Nat.{_+_, _*_, _<_, _≤_};
 ghost use lib.ListN.{length, drop};
 ghost use Rattle.text.specs.Inner.{Written};
 ghost use Rattle.split.specs.Split.{upTo};
-ghost use Rattle.records.specs.Refusals.{placesGiven};
-ghost use Rattle.importing.specs.Import.{lf, linesOf, mostLines, faultsFrom, firstOf, resultOf, importNumber, importPlaces, Imports};
+ghost use Rattle.importing.specs.Import.{lf, linesOf, mostLines, faultsFrom, firstOf, resultOf, Imports};
 ghost use Rattle.importing.specs.Inner.{Sounds, Made};
-
-// Why a text is refused: too many lines, a line with its place from 1, or the catalogue that its lines say.
-pub enum Refusal {
-    TooMany,
-    Line(LineFault, usize),
-    Catalogue(records::Refusal),
-}
 
 // The first refusal that is due, if any is.
 pub enum First {
@@ -36,28 +27,6 @@ const LF: u8 = 0x0a;
 
 // Lines in a text, at most.
 const MOST: usize = 512;
-
-// The number of a refusal.
-pub fn number(x: Refusal) -> u8
-    ensures { λ r. ⌜ r ≡ importNumber x ⌝ }
-{
-    match x {
-        Refusal::TooMany => 18,
-        Refusal::Line(f, _) => sheet_line::number(f),
-        Refusal::Catalogue(y) => records::number(y),
-    }
-}
-
-// The places that a refusal names: its line, or what the catalogue's names, where a record is its line.
-pub fn named(x: Refusal) -> PlaceList
-    ensures { λ r. ⌜ r ≡ placesGiven (importPlaces x) ⌝ }
-{
-    match x {
-        Refusal::TooMany => records::one_place(513),
-        Refusal::Line(_, p) => records::one_place(p),
-        Refusal::Catalogue(y) => records::named(y),
-    }
-}
 
 // The line that begins at a place, without its LF.
 fn line_at(s: &[u8], at: usize) -> &[u8]

@@ -3,7 +3,7 @@ use libc::STDIN_FILENO;
 
 fn main() {
     if 1 < os::arg_count() {
-        program::complain(
+        programs::complain(
             b"usage: list < CATALOGUE\nprints a line for each circuit, or for a refused catalogue the refusal's number and the places\n",
         );
         return;
@@ -12,12 +12,12 @@ fn main() {
     let mut file = [0u8; 10753];
     let n = io::read_full(STDIN_FILENO, &mut file);
     if n < 10753 {
-        if !program::ended() {
-            program::cannot_read(b"list");
+        if !programs::ended() {
+            programs::cannot_read(b"list");
             return;
         }
     }
     let mut text = [0u8; 15898];
     let m = listing::list(&file[..n], &mut text);
-    program::print(b"list", &text[..m]);
+    programs::print(b"list", &text[..m]);
 }

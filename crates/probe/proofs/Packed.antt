@@ -19,8 +19,9 @@ use Rattle.catalogue.specs.declared.Counted.{Counted}
 use Rattle.catalogue.specs.declared.Found.{Found}
 use Rattle.catalogue.specs.declared.Found.the-variants.{Entry, Not}
 use Rattle.catalogue.specs.declared.Looked.{Looked}
-use Rattle.importing.specs.Import.{importNumber, importPlaces, importOf, resultOf, leftBy, Imports}
-use Rattle.importing.specs.declared.Refusal as importing-refusal
+use Rattle.sheet_refusals.specs.Refusals.{importNumber, importPlaces}
+use Rattle.importing.specs.Import.{importOf, resultOf, leftBy, Imports}
+use Rattle.sheet_refusals.specs.declared.Refusal as importing-refusal
 use Rattle.importing.specs.declared.Imported.{Imported}
 use Rattle.importing.specs.declared.Imported.the-variants as imported
 use Rattle.exporting.specs.Export.{exportOf, exportAnswer, Exports}

@@ -8,7 +8,7 @@ use Rattle.catalogue.specs.declared.Checked.the-variants.{Good, Refused}
 use Rattle.catalogue.specs.declared.Counted.{Counted}
 use Rattle.catalogue.specs.declared.Found.{Found}
 use Rattle.catalogue.specs.declared.Found.the-variants.{Entry, Not}
-use Rattle.importing.specs.Import.{importNumber, importPlaces}
+use Rattle.sheet_refusals.specs.Refusals.{importNumber, importPlaces}
 use Rattle.importing.specs.declared.Imported.{Imported}
 use Rattle.importing.specs.declared.Imported.the-variants as imported
 use Rattle.exporting.specs.declared.Exported.{Exported}

@@ -143,7 +143,7 @@ fn pack_imported(i: Imported) -> u64
 {
     match i {
         Imported::Good(n) => wide(n),
-        Imported::Refused(x) => pack(importing::number(x), importing::named(x)),
+        Imported::Refused(x) => pack(sheet_refusals::number(x), sheet_refusals::named(x)),
     }
 }
 

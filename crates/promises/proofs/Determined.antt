@@ -114,10 +114,6 @@ use Rattle.text.proofs.decimal.Kinds as text-decimal
 use Rattle.text.proofs.decimal.Reads as text-decimal-promise
 use Rattle.text.proofs.hex.Kinds as text-hex
 use Rattle.text.proofs.hex.Reads as text-hex-promise
-use Rattle.records.proofs.one_place.Kinds as records-one-place
-use Rattle.records.proofs.one_place.Reads as records-one-place-promise
-use Rattle.split.proofs.place.Kinds as split-place
-use Rattle.split.proofs.place.Reads as split-place-promise
 use Rattle.split.proofs.from.Kinds as split-from
 use Rattle.split.proofs.from.Reads as split-from-promise
 use Rattle.split.proofs.before.Kinds as split-before
@@ -146,16 +142,14 @@ use Rattle.record_line.proofs.lines.Kinds as record-line-lines
 use Rattle.record_line.proofs.lines.Reads as record-line-lines-promise
 use Rattle.refusal_line.proofs.write.Kinds as refusal-line-write
 use Rattle.refusal_line.proofs.write.Reads as refusal-line-write-promise
-use Rattle.sheet_line.proofs.number.Kinds as sheet-line-number
-use Rattle.sheet_line.proofs.number.Reads as sheet-line-number-promise
 use Rattle.sheet_line.proofs.answer.Kinds as sheet-line-answer
 use Rattle.sheet_line.proofs.answer.Reads as sheet-line-answer-promise
 use Rattle.sheet_line.proofs.record.Kinds as sheet-line-record
 use Rattle.sheet_line.proofs.record.Reads as sheet-line-record-promise
-use Rattle.importing.proofs.number.Kinds as importing-number
-use Rattle.importing.proofs.number.Reads as importing-number-promise
-use Rattle.importing.proofs.named.Kinds as importing-named
-use Rattle.importing.proofs.named.Reads as importing-named-promise
+use Rattle.sheet_refusals.proofs.number.Kinds as sheet-refusals-number
+use Rattle.sheet_refusals.proofs.number.Reads as sheet-refusals-number-promise
+use Rattle.sheet_refusals.proofs.named.Kinds as sheet-refusals-named
+use Rattle.sheet_refusals.proofs.named.Reads as sheet-refusals-named-promise
 use Rattle.importing.proofs.import.Kinds as importing-import
 use Rattle.importing.proofs.import.Reads as importing-import-promise
 use Rattle.exporting.proofs.export.Kinds as exporting-export
@@ -296,9 +290,6 @@ card-word-reading-determined κs a x y s t p q = p ∙ sym q
 pub card-settings-check-determined : Determines {O = CardRefusal} 1 card-settings-check.ps card-settings-check.r card-settings-check-promise.Post (λ κs r e. r)
 card-settings-check-determined κs a x y s t p q = p ∙ sym q
 
-pub records-one-place-determined : Determines {O = PlaceList} 0 records-one-place.ps records-one-place.r records-one-place-promise.Post (λ κs r e. r)
-records-one-place-determined κs a x y s t p q = p ∙ sym q
-
 -- ---- records: what is read of one, the bytes of the part that is handed back
 
 pub records-old-kind-determined : Determines {O = Kind} 0 records-old-kind.ps records-old-kind.r records-old-kind-promise.Post (λ κs r e. r)
@@ -317,9 +308,6 @@ pub records-circuit-determined : Determines {O = ℕ} 1 records-circuit.ps recor
 records-circuit-determined κs a x y s t p q = p ∙ sym q
 
 -- ---- bytes parted, digits and quotes read: numbers, tests, and the bytes of the part that is handed back
-
-pub split-place-determined : Determines {O = ℕ} 1 split-place.ps split-place.r split-place-promise.Post (λ κs r e. r)
-split-place-determined κs a x y s t p q = p .0 ∙ sym (q .0)
 
 pub split-from-determined : Determines {O = List ℕ} 1 split-from.ps split-from.r split-from-promise.Post (λ κs r e. now r)
 split-from-determined κs a x y s t p q = p ∙ sym q
@@ -353,17 +341,14 @@ quotes-count-determined κs a x y s t p q = p ∙ sym q
 
 -- ---- a line of a spreadsheet, and the import's refusals
 
-pub sheet-line-number-determined : Determines {O = ℕ} 0 sheet-line-number.ps sheet-line-number.r sheet-line-number-promise.Post (λ κs r e. r)
-sheet-line-number-determined κs a x y s t p q = p ∙ sym q
-
 pub sheet-line-answer-determined : Determines {O = LineAnswer} 1 sheet-line-answer.ps sheet-line-answer.r sheet-line-answer-promise.Post (λ κs r e. r)
 sheet-line-answer-determined κs a x y s t p q = p ∙ sym q
 
-pub importing-number-determined : Determines {O = ℕ} 0 importing-number.ps importing-number.r importing-number-promise.Post (λ κs r e. r)
-importing-number-determined κs a x y s t p q = p ∙ sym q
+pub sheet-refusals-number-determined : Determines {O = ℕ} 0 sheet-refusals-number.ps sheet-refusals-number.r sheet-refusals-number-promise.Post (λ κs r e. r)
+sheet-refusals-number-determined κs a x y s t p q = p ∙ sym q
 
-pub importing-named-determined : Determines {O = PlaceList} 0 importing-named.ps importing-named.r importing-named-promise.Post (λ κs r e. r)
-importing-named-determined κs a x y s t p q = p ∙ sym q
+pub sheet-refusals-named-determined : Determines {O = PlaceList} 0 sheet-refusals-named.ps sheet-refusals-named.r sheet-refusals-named-promise.Post (λ κs r e. r)
+sheet-refusals-named-determined κs a x y s t p q = p ∙ sym q
 
 -- ---- lent buffers: every byte of them. A parameter's list at exit stands at its place among the parameters
 

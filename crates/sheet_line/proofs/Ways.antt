@@ -12,7 +12,8 @@ use Rattle.refusals.specs.Refusals.{due, no, given}
 use Rattle.refusals.proofs.Wrong.{due-none, due-false, Numbered, numbered-row, numbered-last}
 use Rattle.digits.specs.Digits.{isNumber, isLabel}
 use Rattle.quotes.specs.Quotes.{inQuotes}
-use Rattle.sheet_line.specs.Line.{numberField, labelField, traceOn, quoted, characters, flagsField, wellFormed, lineFaults, lineJudged, lineNumber}
+use Rattle.sheet_line.specs.Line.{numberField, labelField, traceOn, quoted, characters, flagsField, wellFormed, lineFaults, lineJudged}
+use Rattle.sheet_line.specs.Refusals.{lineNumber}
 use Rattle.sheet_line.specs.Inner.{Sound}
 use Rattle.sheet_line.specs.declared.LineFault.{LineFault}
 use Rattle.sheet_line.specs.declared.LineFault.the-variants.{Malformed, Unquoted, Long}
@@ -83,9 +84,6 @@ pub unquoted-refused : (ended : Bool) (s : List ℕ) → quoted s ≡ false → 
 unquoted-refused ended s q e = false≢true (sym q ∙ sound ended s e .quoted-is)
 
 -- ---- numbers
-
-pub number-as : (x y : LineFault) (n : ℕ) → x ≡ y → n ≡ lineNumber y → n ≡ lineNumber x
-number-as x y n e h = rw e h
 
 -- each row of a line's table has its case's number; the line's place is the whole's
 unfoldable pub lineSays : LineFault → List ℕ

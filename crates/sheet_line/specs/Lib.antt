@@ -1,3 +1,4 @@
 pub mod Grammar
 pub mod Line
+pub mod Refusals
 pub mod Inner

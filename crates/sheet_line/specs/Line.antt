@@ -64,11 +64,6 @@ unfoldable pub lineJudged : List (Fault LineFault) → LineAnswer
 lineJudged [] = Passes
 lineJudged (f ∷ fs) = Wrong (f .why)
 
-unfoldable pub lineNumber : LineFault → ℕ
-lineNumber Malformed = 15
-lineNumber Unquoted = 16
-lineNumber Long = 17
-
 -- ---- the record
 
 -- "short traces are padded with spaces"

@@ -5,7 +5,7 @@ ghost use Prim.Native.Nat.{_+_, _<_, _≤_};
 ghost use lib.ListN.{length, drop};
 ghost use Rattle.text.specs.Inner.{Written};
 ghost use Rattle.digits.specs.Digits.{valueFrom};
-ghost use Rattle.sheet_line.specs.Line.{numberField, labelField, traceOn, quoted, characters, behindComma, flagsField, wellFormed, lineFaults, lineJudged, lineNumber, padded, frontOf, recordOf};
+ghost use Rattle.sheet_line.specs.Line.{numberField, labelField, traceOn, quoted, characters, behindComma, flagsField, wellFormed, lineFaults, lineJudged, padded, frontOf, recordOf};
 ghost use Rattle.sheet_line.specs.Inner.{Sound};
 
 // What may be wrong with a line, in the order in which it is looked for.
@@ -27,17 +27,6 @@ pub enum LineAnswer {
 const COMMA: u8 = 0x2c;
 
 const QUOTE: u8 = 0x22;
-
-// The number of what is wrong.
-pub fn number(x: LineFault) -> u8
-    ensures { λ r. ⌜ r ≡ lineNumber x ⌝ }
-{
-    match x {
-        LineFault::Malformed => 15,
-        LineFault::Unquoted => 16,
-        LineFault::Long => 17,
-    }
-}
 
 fn label_field(s: &[u8]) -> &[u8]
     ensures { λ r. ⌜ now r ≡ labelField (now (s .entry)) ⌝ }

@@ -13,7 +13,7 @@ use Rattle.sheet_line.specs.Line.{numberField, labelField, quoted, characters, 
 use Rattle.sheet_line.specs.declared.LineFault.{LineFault}
 use Rattle.sheet_line.proofs.Ways.{sound, sound-ended}
 use Rattle.importing.specs.Import.{Cut, linesOf, mostLines, faultsFrom, resultOf, importOf}
-use Rattle.importing.specs.declared.Refusal.the-variants.{Line}
+use Rattle.sheet_refusals.specs.declared.Refusal.the-variants.{Line}
 use Rattle.importing.specs.declared.Imported.the-variants.{Good}
 use Rattle.importing.proofs.Answers.{good-fine}
 use Rattle.sheet_theorems.proofs.Grammar.{accepted-written}

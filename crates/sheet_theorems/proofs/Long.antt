@@ -17,8 +17,8 @@ use Rattle.sheet_line.specs.declared.LineFault.the-variants.{Malformed}
 use Rattle.sheet_line.specs.declared.LineAnswer.the-variants.{Wrong}
 use Rattle.sheet_line.proofs.Ways.{wrong-malformed, sound-short}
 use Rattle.importing.specs.Import.{lf, Cut, cut, onto, linesOf, mostLines, faultsFrom, importFaults, firstOf, importAnswer, importOf}
-use Rattle.importing.specs.declared.Refusal.{Refusal}
-use Rattle.importing.specs.declared.Refusal.the-variants.{TooMany, Line}
+use Rattle.sheet_refusals.specs.declared.Refusal.{Refusal}
+use Rattle.sheet_refusals.specs.declared.Refusal.the-variants.{TooMany, Line}
 use Rattle.importing.specs.declared.First.the-variants.{Of}
 use Rattle.importing.specs.declared.Imported.the-variants.{Refused}
 use Rattle.importing.proofs.Walk.{nextOf, lines-at}
@@ -169,7 +169,7 @@ few-refused : (s : List ℕ) (x : Refusal) → length (linesOf s) ≤ mostLines 
 unfolding importOf importFaults due importAnswer
 few-refused s x h e = rw (le-ltb mostLines (length (linesOf s)) h, first-both (faultsFrom 0 (linesOf s)) _ x e)
 
-many-refused : (s : List ℕ) → mostLines < length (linesOf s) → importOf s ≡ Refused TooMany
+pub many-refused : (s : List ℕ) → mostLines < length (linesOf s) → importOf s ≡ Refused TooMany
 unfolding importOf importFaults due firstOf importAnswer
 many-refused s h = rw (lt-ltb mostLines (length (linesOf s)) h)
 

@@ -1,9 +1,9 @@
--- `importing::number` meets its contract: a number for each case. Assumes nothing.
+-- `sheet_refusals::number` meets its contract: a number for each case. Assumes nothing.
 use borrow.Author.Needs.{needs}
-use Rattle.importing.specs.Import.{importNumber}
-use Rattle.importing.proofs.Answers.{number-as}
-use Rattle.importing.proofs.number.Statement.{statement}
-use Rattle.importing.proofs.number.Tie as tie
+use Rattle.sheet_refusals.specs.Refusals.{importNumber}
+use Rattle.sheet_refusals.proofs.Cases.{number-as}
+use Rattle.sheet_refusals.proofs.number.Statement.{statement}
+use Rattle.sheet_refusals.proofs.number.Tie as tie
 
 enum-told : tie.Need-enum-told
 enum-told c = search needs
@@ -11,14 +11,14 @@ enum-told c = search needs
 enum-known-x : tie.Need-enum-known-x
 enum-known-x c = search needs
 
-number-requires : tie.Need-number-requires
-number-requires c κs = search needs
+line-number-requires : tie.Need-line-number-requires
+line-number-requires c κs = search needs
 
 enum-known-x-2 : tie.Need-enum-known-x-2
 enum-known-x-2 c = search needs
 
-number-requires-2 : tie.Need-number-requires-2
-number-requires-2 c κs = search needs
+number-requires : tie.Need-number-requires
+number-requires c κs = search needs
 
 returns : tie.Need-returns
 unfolding importNumber
@@ -38,9 +38,9 @@ number-spec =
     (tie.spec
     enum-told
     enum-known-x
-    number-requires
+    line-number-requires
     enum-known-x-2
-    number-requires-2
+    number-requires
     returns
     returns-2
     returns-3)

@@ -1,8 +1,8 @@
--- `sheet_line::number` meets its contract: a number for each case. Assumes nothing.
-use Rattle.sheet_line.specs.Line.{lineNumber}
+-- `sheet_refusals::line_number` meets its contract: a number for each case. Assumes nothing.
+use Rattle.sheet_line.specs.Refusals.{lineNumber}
 use borrow.Author.Needs.{needs}
-use Rattle.sheet_line.proofs.number.Statement.{statement}
-use Rattle.sheet_line.proofs.number.Tie as tie
+use Rattle.sheet_refusals.proofs.line_number.Statement.{statement}
+use Rattle.sheet_refusals.proofs.line_number.Tie as tie
 
 enum-told : tie.Need-enum-told
 enum-told c = search needs
@@ -25,5 +25,5 @@ returns-3 : tie.Need-returns-3
 unfolding lineNumber
 returns-3 c = simp (c .enum-told3 .given .1)
 
-pub number-spec : {M : Type 1} → statement M
-number-spec = tie.close (tie.spec enum-told enum-told-2 enum-told-3 returns returns-2 returns-3)
+pub line-number-spec : {M : Type 1} → statement M
+line-number-spec = tie.close (tie.spec enum-told enum-told-2 enum-told-3 returns returns-2 returns-3)

@@ -1,21 +1,21 @@
--- `importing::named` meets its contract: the places of each case. Assumes nothing.
+-- `sheet_refusals::named` meets its contract: the places of each case. Assumes nothing.
 use borrow.Author.Needs.{needs}
-use Rattle.importing.specs.Import.{importPlaces}
-use Rattle.importing.proofs.Answers.{places-as}
-use Rattle.importing.proofs.named.Statement.{statement}
-use Rattle.importing.proofs.named.Tie as tie
+use Rattle.sheet_refusals.specs.Refusals.{importPlaces}
+use Rattle.sheet_refusals.proofs.Cases.{places-as}
+use Rattle.sheet_refusals.proofs.named.Statement.{statement}
+use Rattle.sheet_refusals.proofs.named.Tie as tie
 
 enum-told : tie.Need-enum-told
 enum-told c = search needs
 
-one-place-requires : tie.Need-one-place-requires
-one-place-requires c κs = search needs
+at-line-requires : tie.Need-at-line-requires
+at-line-requires c κs = search needs
 
 enum-known-x : tie.Need-enum-known-x
 enum-known-x c = search needs
 
-one-place-requires-2 : tie.Need-one-place-requires-2
-one-place-requires-2 c κs = search needs
+at-line-requires-2 : tie.Need-at-line-requires-2
+at-line-requires-2 c κs = search needs
 
 enum-known-x-2 : tie.Need-enum-known-x-2
 enum-known-x-2 c = search needs
@@ -40,9 +40,9 @@ named-spec =
     tie.close
     (tie.spec
     enum-told
-    one-place-requires
+    at-line-requires
     enum-known-x
-    one-place-requires-2
+    at-line-requires-2
     enum-known-x-2
     named-requires
     returns

@@ -1,8 +1,8 @@
--- `program::refuse` meets its contract: the line is a part of the buffer. Assumes what `libc` says of the C functions behind it.
+-- `programs::refuse` meets its contract: the line is a part of the buffer. Assumes what `libc` says of the C functions behind it.
 use borrow.Author.Needs.{needs}
 use Rattle.refusal_line.proofs.Refusing.{line-part}
-use Rattle.program.proofs.refuse.Statement.{statement}
-use Rattle.program.proofs.refuse.Tie as tie
+use Rattle.programs.proofs.refuse.Statement.{statement}
+use Rattle.programs.proofs.refuse.Tie as tie
 
 slice-aggregate-write : tie.Need-slice-aggregate-write
 slice-aggregate-write c = search needs
