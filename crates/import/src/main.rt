@@ -1,7 +1,7 @@
 // Imports comma-separated text from standard input: prints the catalogue, or for a refused text the one line of its refusal.
 use importing::Imported;
-use sheet_refusals::Refusal;
 use libc::STDIN_FILENO;
+use sheet_refusals::Refusal;
 
 const LF: u8 = 0x0a;
 

@@ -1,8 +1,8 @@
 // The import of comma-separated text into a lent catalogue. What it is stands in specs/Import.antt, one line in the crate `sheet_line`, and its refusals in `sheet_refusals`;
 // specs/Inner.antt has what the functions inside ask and answer. The program `import` prints what it gives.
 use catalogue::Checked;
-use sheet_refusals::Refusal;
 use sheet_line::LineAnswer;
+use sheet_refusals::Refusal;
 ghost use mathlib.Core.Path.{_≡_};
 ghost use Prim.Native.Nat.{_+_, _*_, _<_, _≤_};
 ghost use lib.ListN.{length, drop};
