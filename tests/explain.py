@@ -1005,6 +1005,18 @@ def look_at_examples(name, page, fault):
         fault(name, "it does not say what `cat` prints")
 
 
+def look_at_played(program, name, page, fault):
+    """An import or export that a page sets out with its answer below is answered so."""
+    lines = page.split("\n")
+    played = [(line.strip(), lines[number].strip()) for number, line in enumerate(lines[:-1], 1) if re.fullmatch(r"    (import|export) [0-9A-F]+", line)]
+    for line, answer in played:
+        printed = lines_of(play(program, f"{line}\n".encode(), name))
+        if printed != [answer]:
+            fault(name, f"`{line}` prints {printed}, not {answer}")
+    if {line.split(" ")[0] for line, _ in played} != {"import", "export"}:
+        fault(name, "it has no example of import, or none of export")
+
+
 def look_at_rows(program, card, fault):
     """A unit with the word of each row of the card's pointer table is told as the table has it."""
     rows = re.findall(r"\| (P\d+) \| (\d+) \| ([0-9A-F]{4})[^|]* \| ([a-z ]+)[^|]* \| (\d+) \|", card)
@@ -1444,6 +1456,11 @@ def look_at_checks(program, pages, refusals, fault):
                       ("other pairs of a good catalogue on a page", "13 3 1 pairs=2` and `cat ok 4 pairs=4")):
         trials += 1
         tried(name, lambda new=new: look_at_examples("spoiled", page.replace("13 3 1 pairs=2", new), note))
+    bench_page = read("docs/BENCH.md").decode()
+    for name, old, new in (("another answer on a page", "import refused 16 1\n", "import refused 15 1\n"), ("another text on a page", "export ok 372C", "export ok 382C"),
+                           ("no example on a page", "    import 372C", "import 372C")):
+        trials += 1
+        tried(name, lambda old=old, new=new: look_at_played(program, "spoiled", bench_page.replace(old, new), note))
     return len(words) + len(lines) + seeded + trials + 16
 
 
@@ -1480,6 +1497,7 @@ def main():
     look_at_traces(program, pages[0], fault)
     look_at_examples("REFUSALS.md", pages[0], fault)
     look_at_examples("BENCH.md", read("docs/BENCH.md").decode(), fault)
+    look_at_played(program, "BENCH.md", read("docs/BENCH.md").decode(), fault)
     look_at_rows(program, pages[3], fault)
     look_at_bytes(program, fault)
     for seed in range(4):
