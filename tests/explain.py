@@ -362,14 +362,19 @@ def lines_in(data):
     return [(line.rstrip(b"\n"), line.endswith(b"\n")) for line in re.findall(rb"[^\n]*\n|[^\n]+", data)]
 
 
-def detail_faults(detail, number, places, data):
+def line_shown(line, brief):
+    """A line as it is shown, and no more than so much of it."""
+    text, most = trace_shown(line), 40 if brief else 100
+    return text if len(text) <= most else text[: most - 3] + "..."
+
+
+def detail_faults(detail, number, places, data, brief=False):
     """What is said in parentheses of a refused text, against the text: the line as it stands, and what in it is refused."""
     lines = lines_in(data)
     if number == 18:
         return [] if detail == f"it has {len(lines)} lines" else [detail]
     line, ended = lines[places[0] - 1]
-    shown = trace_shown(line)
-    text = f"line {places[0]} is {shown if len(shown) <= 100 else shown[:97] + '...'}" if line else f"line {places[0]} is empty"
+    text = f"line {places[0]} is {line_shown(line, brief) if line else 'empty'}"
     found = WELL_FORMED.fullmatch(line) if ended and len(line) <= 80 else None
     quoted = found is not None and found[3][:1] == b'"'
     trace = found[3][1:-1].replace(b'""', b'"') if quoted else b""
@@ -381,10 +386,9 @@ def detail_faults(detail, number, places, data):
         return [f"{detail}, and no such line"]
     wanted = text
     if number == 17:
-        wanted += f": its trace has {len(trace)} characters" + ("" if line.isascii() else "; each byte counts, and a sign above 7E may have two or more")
+        wanted += f": its trace has {len(trace)} characters" + ("" if line.isascii() or brief else "; each byte counts, and a sign above 7E may have two or more")
     elif number == 13:
-        other = trace_shown(lines[places[1] - 1][0])
-        wanted += f"; line {places[1]} is {other if len(other) <= 100 else other[:97] + '...'}"
+        wanted += "" if brief else f"; line {places[1]} is {line_shown(lines[places[1] - 1][0], brief)}"
     elif number in (4, 11, 12):
         wanted += {4: f": the label is {found[2].decode().upper()}", 11: f": the number is {int(found[1])}", 12: f": the flags are {int(found[4])}"}[number]
     elif number in CHARACTERS:
@@ -423,11 +427,11 @@ def sheet_faults(sheet, texts, words, advice, brief=False):
         found = REFUSED.fullmatch(head)
         if not found or found[1] != name or parts:
             return texts
-        if name == "export" or brief:
+        if name == "export":
             return []
-        for end in (f"). {advice.get(number)}", ")"):
-            if found[5].startswith(f"{words.get(number)} (") and found[5].endswith(end):
-                return detail_faults(found[5][len(words[number]) + 2 : -len(end)], number, places, data)
+        for begin, end in ((begin, end) for begin in [f"{words.get(number)} ("] + ["as above ("] * brief for end in ([] if brief else [f"). {advice.get(number)}"]) + [")"]):
+            if found[5].startswith(begin) and found[5].endswith(end):
+                return detail_faults(found[5][len(begin) : -len(end)], number, places, data, brief)
         return texts
     made = bytes.fromhex(line.partition(" ok")[2])
     text, catalogue = (data, made) if name == "import" else (made, data)
@@ -1426,6 +1430,13 @@ def look_at_checks(program, pages, refusals, fault):
             fault("these checks", f"nothing to change in brief: {name}")
         seeded += 1
         tried(f"brief without {name}", lambda texts=texts: look_at_brief("spoiled", printed, told, texts, note))
+    for name, texts in (("a line of a text", [text.replace("line 2 is 8,FE,NORD-SUED 102,3", "line 2") for text in brief]), ("a reason", [text.replace(": its label is in quotes, and only the trace may be", "") for text in brief]),
+                        ("the right line", [text.replace("8,FE,NORD-SUED 102,3", "8,FE,NORD-SUED 103,3") for text in brief]), ("an import", [text for text in brief if not text.startswith("import: two")]),
+                        ("the right circuits", [text.replace("catalogue of two circuits", "catalogue of 3 circuits") for text in brief]), ("few words", [text.replace("two circuits, a text of", "two circuits: a text of") for text in brief])):
+        if texts == brief:
+            fault("these checks", f"nothing to change in brief: {name}")
+        seeded += 1
+        tried(f"brief without {name}", lambda texts=texts: look_at_sheets("spoiled", base, printed, texts, refusals, note, brief=True))
     # pages
     page, glossary, header, card = pages
     for name, changed in (("a word of the glossary", (page, glossary.replace("| 7 | an adjustment", "| 7 | a change"), header, card)),
