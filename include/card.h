@@ -46,6 +46,10 @@
  *     12  flags are above 15
  *     13  two records have the same trace
  *     14  the circuit is not listed
+ *     15  a line of the text is malformed, or longer than 80 bytes
+ *     16  a trace is not in double quotes
+ *     17  a trace has more than 15 characters
+ *     18  the text has more than 512 lines
  *     20  a trace character is above 7E, which is ~
  *     21  all fifteen characters of the trace are spaces, which nobody means
  */

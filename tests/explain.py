@@ -7,6 +7,7 @@ Every script under lessons and examples is played, and so are random lines. What
 held to it: every unit has exactly one; its causes, defects, actions, containers, violations, offsets and whether it settled are those of
 the printed line; every refusal has the words of docs/REFUSALS.md and the places that were printed, and of a refused character the byte that
 the script's own line or catalogue has there; every check of a catalogue has its records and the pairs of traces that were compared; every
+import and export has its lines and circuits, and of a refused text the line that is named, with a reason that is true of it; every
 `? N` has its line; comments stand in their order. Each refusal that the bench can give is given by a script; 2 and 8, which it cannot give,
 are told from lines made up here. The bytes that the words name on the line are held to what damage to them does. docs/REFUSALS.md,
 docs/GLOSSARY.md and include/card.h must have the same words, docs/CARD.md the same orders, the traces of docs/REFUSALS.md must be refused as
@@ -43,18 +44,21 @@ ORDERS = {
     "catalogue check": [9, 10, 11, 4, *TRACE, 12, 13],
     "lookup": [9, 10, 11, 4, *TRACE, 12, 13, 14],
     "listing": [9, 10, 11, 4, *TRACE, 12, 13],
+    "import": [18, 15, 16, 17, 11, 4, *TRACE, 12, 13],
+    "export": [9, 10, 11, 4, *TRACE, 12, 13],
     "tx": [4, *TRACE, 6],
     "rx": [4, *TRACE],
 }
-ALL = [*range(1, 15), 20, 21]  # the refusals
+ALL = [*range(1, 19), 20, 21]  # the refusals
 CHARACTERS = (5, 20)  # those that name a character of a trace
+CATALOGUES = ("cat", "lookup", "list", "export")  # commands that are given a catalogue
 NUMBERS = {"no": 0, "one": 1, "two": 2}
 MOST_BRIEF = 40  # lines of a lesson in its brief form, on a projector
 LONGEST_BRIEF = 200  # characters of one of them before it is wrapped
 SHOWN = 8  # faults of one thing
 
 failures = {}
-checked = {"units": 0, "sentences": 0, "refusals": 0, "catalogues": 0, "strange": 0, "runs": 0}
+checked = {"units": 0, "sentences": 0, "refusals": 0, "catalogues": 0, "sheets": 0, "strange": 0, "runs": 0}
 
 
 def fault(what, text):
@@ -121,6 +125,7 @@ def look_at_pages(refusals_page, glossary, header, card, fault):
     # the card's rules have the same orders
     for call, text in re.findall(r"\| <a id=\"r13-\d+\">[\d.]+</a> \| ([a-z ]+) \| ([^|]*) \|", card):
         found = numbers_in(text.replace("as the catalogue check", " ".join(map(str, ORDERS["catalogue check"]))))
+        found = [number for number in found if number not in (9, 10)] if call == "import" else found  # its result has length and marks
         if found != ORDERS.get(call):
             fault("CARD.md", f"the order of {call} is {found}, and in REFUSALS.md {ORDERS.get(call)}")
     # the tester's names, and the rules that the glossary names
@@ -160,8 +165,8 @@ class Unit:
 
 NOTHING_BEFORE = Unit("ok st=lost off=- held=0 ended=0 ssf=0 tsf=0 ais=0 rdi=0 d=- cause=- settled=0 total=0")
 HEAD = re.compile(r"(units?) (\d+)(?: (and|to) (\d+))?(, the same line again|, one line fed (?:twice|\d+ times))?: (.*)")
-REFUSED = re.compile(r"(container|unit|tx|rx|payload|catalogue|lookup|listing|sink) refused (\d+)((?: in record \d+)?(?: at character \d+)?(?:, as in record \d+)?)"
-                     r"(?:, (\d+) times)?: (.*)")
+REFUSED = re.compile(r"(container|unit|tx|rx|payload|catalogue|lookup|listing|import|export|sink) refused (\d+)"
+                     r"((?: in (?:record|line) \d+)?(?: at character \d+)?(?:, as in (?:record|line) \d+)?)(?:, (\d+) times)?: (.*)")
 CHARACTER = re.compile(r"\((?:circuit (\d+), )?character (\d+) of (the sent|the expected|its) trace(?: \"(.*)\")? is ([0-9A-F]{2})\b")
 GOOD_CATALOGUE = re.compile(r"cat: a good catalogue of (no|one|two|\d+) record(s?)(, as an empty file is)?(; .*)?")
 # How many pairs of traces were compared: at the end of a sentence, or of what a refusal says in parentheses.
@@ -257,6 +262,8 @@ def refusal_told(found, brief=False):
     """Of a sentence about a refusal: whose, number, places; where a character is named its circuit, its place, whose trace, the trace as shown, the byte;
     and the pairs of traces that were compared."""
     character = CHARACTER.search(found[5])
+    if ("line" in found[3], "record" in found[3]) not in ([(True, False)] if found[1] == "import" else [(False, True), (False, False)]):
+        return found[1], int(found[2]), found[3], None, None  # a line of a text for a record, or the other way round
     named = (character[1] and int(character[1]), int(character[2]), character[3], character[4], int(character[5], 16)) if character else None
     return found[1], int(found[2]), tuple(numbers_in(found[3])), named, pairs_told(found[5], brief)
 
@@ -292,9 +299,9 @@ def refusals_printed(data, printed):
                 settings[name] = trace_of(words[2])
             if name in ("fresh", "fill", "lens", "word", "xor", "ones", "len") or name in settings and not refused_at_once(words) or not said:
                 continue
-            found = re.fullmatch(r"(?:(container|unit|tx|rx|payload|cat|lookup) )?refused (\d+)((?: \d+)*)(?: pairs=(\d+))?", said[0])
+            found = re.fullmatch(r"(?:(container|unit|tx|rx|payload|cat|lookup|import|export) )?refused (\d+)((?: \d+)*)(?: pairs=(\d+))?", said[0])
             listing = re.fullmatch(r"()(\d+)((?: \d+)*)()", said[0]) if name == "list" else None
-            catalogue = bytes.fromhex(words[-1]) if name in ("cat", "lookup", "list") and len(words) > 1 + (name == "lookup") else b""
+            catalogue = bytes.fromhex(words[-1]) if name in CATALOGUES and len(words) > 1 + (name == "lookup") else b""
             if found or listing:
                 yield refusal_key(name, found or listing, settings, catalogue)
             del said[: 1 + (len(catalogue) // 21 if said[0].startswith("circuit ") else 0)]
@@ -303,8 +310,8 @@ def refusals_printed(data, printed):
 def refusal_key(name, found, settings, catalogue):
     number, places, named = int(found[2]), numbers_in(found[3]), None
     call = {"cat": "catalogue", "list": "listing"}.get(name, found[1] or "sink")
-    if number in CHARACTERS and places:
-        if name in ("cat", "lookup", "list"):
+    if number in CHARACTERS and places and name != "import":  # whose lines are looked at by themselves
+        if name in CATALOGUES:
             record = catalogue[21 * places[0] - 21 : 21 * places[0]]
             circuit, whose, trace = int.from_bytes(record[2:4], "big"), "its", record[5:20]
         else:
@@ -317,6 +324,150 @@ def refusal_key(name, found, settings, catalogue):
 
 def trace_shown(trace):
     return "".join(chr(c) if 0x20 <= c <= 0x7E else f"<{c:02X}>" for c in trace)
+
+
+# Why a line of a text is malformed, and what then is true of it.
+FIELD = rb'(?:"(?:[^"]|"")*"|(?!")[^,]*)'  # a trace, with quotes or without
+REASONS = {
+    r"it has (\d+) bytes, and a line has at most 80": lambda line, ended, said: len(line) == int(said[1]) > 80,
+    r"no LF ends it": lambda line, ended, said: not ended,
+    r"a CR stands before its LF": lambda line, ended, said: line[-1:] == b"\r",
+    r"it begins with the mark of UTF-8, EF BB BF": lambda line, ended, said: line[:3] == b"\xef\xbb\xbf",
+    r"semicolons stand between its fields, and commas must": lambda line, ended, said: line.count(b";") >= 3 > line.count(b","),
+    r"no comma stands behind the (number|label|trace)": lambda line, ended, said: line.count(b",") == ["number", "label", "trace"].index(said[1]),
+    r"its number is not one to four digits": lambda line, ended, said: not re.match(rb'([0-9]{1,4},|"|[^,]* )', line),
+    r"its number is not one to four digits alone: a blank stands there": lambda line, ended, said: re.match(rb"[^,]* ", line) is not None,
+    r"its number is in quotes, and only the trace may be": lambda line, ended, said: line[:1] == b'"',
+    r"its label is not two hex digits": lambda line, ended, said: not re.match(rb'[^,]*,([0-9A-Fa-f]{2},|"|[^,]* )', line),
+    r"its label is not two hex digits alone: a blank stands there": lambda line, ended, said: re.match(rb"[^,]*,[^,]* ", line) is not None,
+    r"its label is in quotes, and only the trace may be": lambda line, ended, said: re.match(rb'[^,]*,"', line) is not None,
+    r"a double quote opens the trace, and none closes it": lambda line, ended, said: re.fullmatch(rb'[^,]*,[^,]*,"([^"]|"")*', line) is not None,
+    r"no comma stands behind the trace's closing quote": lambda line, ended, said: re.fullmatch(rb'[^,]*,[^,]*,"([^"]|"")*"', line) is not None,
+    r"no comma stands behind the trace's closing quote; a quote in a trace is written twice": lambda line, ended, said: re.match(rb'[^,]*,[^,]*,"([^"]|"")*"[^",]', line) is not None,
+    r"more than four fields stand in it": lambda line, ended, said: re.match(rb"[^,]*,[^,]*," + FIELD + rb",[^,]*,", line) is not None,
+    r"its flags are in quotes, and only the trace may be": lambda line, ended, said: re.match(rb"[^,]*,[^,]*," + FIELD + rb',"', line) is not None,
+    r"its flags are not one or two digits": lambda line, ended, said: re.fullmatch(rb"[^,]*,[^,]*," + FIELD + rb',(?![0-9]{1,2}$|")[^, ]*', line) is not None,
+    r"its flags are not one or two digits alone: a blank stands there": lambda line, ended, said: re.fullmatch(rb"[^,]*,[^,]*," + FIELD + rb",[^,]* [^,]*", line) is not None,
+}
+WELL_FORMED = re.compile(rb"([0-9]{1,4}),([0-9A-Fa-f]{2}),(" + FIELD + rb"),([0-9]{1,2})")
+
+
+def reason_is_true(why, line, ended):
+    found = [(said, true) for said, true in ((re.fullmatch(form, why), true) for form, true in REASONS.items()) if said]
+    return len(found) == 1 and found[0][1](line, ended, found[0][0])
+
+
+def lines_in(data):
+    """The lines of a text, each with whether an LF ends it."""
+    return [(line.rstrip(b"\n"), line.endswith(b"\n")) for line in re.findall(rb"[^\n]*\n|[^\n]+", data)]
+
+
+def line_shown(line, brief):
+    """A line as it is shown, and no more than so much of it."""
+    text, most = trace_shown(line), 40 if brief else 100
+    return text if len(text) <= most else text[: most - 3] + "..."
+
+
+def detail_faults(detail, number, places, data, brief=False):
+    """What is said in parentheses of a refused text, against the text: the line as it stands, and what in it is refused."""
+    lines = lines_in(data)
+    if number == 18:
+        return [] if detail == f"it has {len(lines)} lines" else [detail]
+    line, ended = lines[places[0] - 1]
+    text = f"line {places[0]} is {line_shown(line, brief) if line else 'empty'}"
+    found = WELL_FORMED.fullmatch(line) if ended and len(line) <= 80 else None
+    quoted = found is not None and found[3][:1] == b'"'
+    trace = found[3][1:-1].replace(b'""', b'"') if quoted else b""
+    if number == 15:
+        return [] if not found and (detail == text if not line else detail.startswith(text + ": ") and reason_is_true(detail[len(text) + 2 :], line, ended)) else [detail]
+    if number == 16:
+        return [] if found and not quoted and detail == text else [detail]
+    if not quoted or (number == 17) != (len(trace) > 15):
+        return [f"{detail}, and no such line"]
+    wanted = text
+    if number == 17:
+        wanted += f": its trace has {len(trace)} characters" + ("" if line.isascii() or brief else "; each byte counts, and a sign above 7E may have two or more")
+    elif number == 13:
+        wanted += "" if brief else f"; line {places[1]} is {line_shown(lines[places[1] - 1][0], brief)}"
+    elif number in (4, 11, 12):
+        wanted += {4: f": the label is {found[2].decode().upper()}", 11: f": the number is {int(found[1])}", 12: f": the flags are {int(found[4])}"}[number]
+    elif number in CHARACTERS:
+        byte = trace.ljust(15)[places[1] - 1]
+        wanted += f": character {places[1]} of its trace is {byte:02X}"
+        return [] if re.match(re.escape(wanted) + r"($|, )", detail) and (byte < 0x20 if number == 5 else byte > 0x7E) else [detail]
+    return [] if detail == wanted else [detail]
+
+
+def sheets_of(data, printed):
+    """Each import and export of a run, in order: its name, the bytes that it was given, and what was printed."""
+    said = [line for line in printed if re.match("(import|export) ", line)]
+    strange = {int(line[2:]) for line in printed if re.fullmatch(r"\? \d+", line)}
+    given = [words for number, words in words_of_lines(data) if words and words[0] in ("import", "export") and number not in strange]
+    return [(words[0], bytes.fromhex("".join(words[1:])), line) for words, line in zip(given, said)] if len(given) == len(said) else None
+
+
+def sheets_told(told):
+    """What is said of each import and export, in order, with the lines that stand below it."""
+    found = []
+    for text in told:
+        if re.match(r"(import|export)(:| refused )", text):
+            found.append([text])
+        elif re.match(r"line \d+ is (?!not understood \(\?)", text) and found:
+            found[-1].append(text)
+    return found
+
+
+def sheet_faults(sheet, texts, words, advice, brief=False):
+    """What is said of an import or export that its bytes, or what was printed, do not say."""
+    name, data, line = sheet
+    head, *parts = texts
+    refused = re.fullmatch(rf"{name} refused ([\d ]+)", line)
+    if refused:
+        number, *places = numbers_in(refused[1])
+        found = REFUSED.fullmatch(head)
+        if not found or found[1] != name or parts:
+            return texts
+        if name == "export":
+            return []
+        for begin, end in ((begin, end) for begin in [f"{words.get(number)} ("] + ["as above ("] * brief for end in ([] if brief else [f"). {advice.get(number)}"]) + [")"]):
+            if found[5].startswith(begin) and found[5].endswith(end):
+                return detail_faults(found[5][len(begin) : -len(end)], number, places, data, brief)
+        return texts
+    made = bytes.fromhex(line.partition(" ok")[2])
+    text, catalogue = (data, made) if name == "import" else (made, data)
+    lines = lines_in(text)
+    count = ["no", "one", "two"][len(lines)] if len(lines) < 3 else len(lines)
+    some, end = "s" if len(lines) > 1 else "", ":" if lines and not brief else ""
+    if name == "import":
+        wanted = f"import: {count} line{some} make{'' if some else 's'} a good catalogue of {count} circuit{some}{'' if lines else ', as an empty file is'}{end}"
+    else:
+        wanted = f"export: {count} circuit{some}, a text of {count} line{some}{end}"
+    wrong = [] if head == wanted and len(catalogue) == 21 * len(lines) else [head]
+    if brief:
+        return wrong + parts
+    if len(parts) != len(lines):
+        return wrong + [f"{len(parts)} lines of {len(lines)}"]
+    for place, ((each, _), part) in enumerate(zip(lines, parts)):
+        record = catalogue[21 * place : 21 * place + 21]
+        shown = f"line {place + 1} is {trace_shown(each)}"
+        said = f': circuit {record[2] * 256 + record[3]}, label {record[4]:02X}'
+        rest = f', trace "{trace_shown(record[5:20])}", flags {record[20]} ('
+        good = part == shown if name == "export" else re.match(re.escape(shown + said) + r"(?: \([^()]*\))?" + re.escape(rest), part)
+        wrong += [] if good else [part]
+    return wrong
+
+
+def look_at_sheets(name, data, printed, told, refusals, fault, brief=False):
+    """Each import and export has its words, with the lines of its text."""
+    sheets, texts = sheets_of(data, printed), sheets_told(told)
+    if sheets is None or len(sheets) != len(texts):
+        fault(name, f"{'?' if sheets is None else len(sheets)} imports and exports, and {len(texts)} are told")
+        return
+    words, advice = ({number: row[k].replace("`", "") for number, row in refusals.items()} for k in (0, 1))
+    for sheet, said in zip(sheets, texts):
+        for wrong in sheet_faults(sheet, said, words, advice, brief)[:1]:
+            fault(name, f"to {sheet[0]}, which prints {sheet[2][:60]}: {wrong[:200]}")
+    checked["sheets"] += len(sheets)
 
 
 def look_at_run(name, data, printed, told, refusals, fault):
@@ -373,6 +524,7 @@ def look_at_run(name, data, printed, told, refusals, fault):
     if list(good_told(told)) != good:
         fault(name, f"good catalogues and their pairs: printed {good[:9]}, told {list(good_told(told))[:9]}")
     checked["catalogues"] += len(good)
+    look_at_sheets(name, data, printed, told, refusals, fault)
     # lines that were not understood
     skipped = [re.fullmatch(r"line (\d+) is not understood \(\? (\d+)\) and skipped, `(.*)`: (.+)", text, re.DOTALL) for text in told]
     skipped = [found for found in skipped if found]
@@ -429,6 +581,7 @@ def look_at_script(name, data, program, refusals, fault):
     look_at_run(name, data, printed, told, refusals, fault)
     look_at_run(f"{name} by lines", data, printed, each, refusals, fault)
     look_at_brief(name, printed, told, brief, fault)
+    look_at_sheets(f"{name} in brief", data, printed, brief, refusals, fault, brief=True)
     return printed, told, brief
 
 
@@ -485,8 +638,58 @@ def hexed(*parts):
     return b"".join(part.encode() if isinstance(part, str) else bytes([part]) for part in parts).ljust(15).hex().upper()
 
 
+def text_of(*lines, end=b"\n"):
+    """The bytes of a text of these lines, an LF behind each, in hex; behind the last what is asked for."""
+    return (b"\n".join(line.encode() for line in lines) + end).hex().upper()
+
+
+# lines of a text: a good one, one as Calc writes it, one with a trace too long; and what is malformed, with its reason
+SEVEN, EIGHT, SIXTEEN = '7,12,"03E5",15', "8,FE,NORD-SUED 102,3", '9,12,"NORD-SUED 102 AB",3'
+UMLAUT, QUOTES = '7,12,"NORD-S\u00dcD 101 AB",15', '7,12,"' + '"' * 32 + '",15'  # of 15 signs and 16 bytes; sixteen doubled quotes
+DOUBLED, INSIDE = '0008,fe,"N""S",03', '0,00, ",99'
+MALFORMED = {
+    '7,"12","03E5",15': "its label is in quotes, and only the trace may be",
+    '"7",12,"03E5",15': "its number is in quotes, and only the trace may be",
+    '7,12,"03E5","15"': "its flags are in quotes, and only the trace may be",
+    "circuit,label,trace,flags": "its number is not one to four digits",
+    ',12,"03E5",15': "its number is not one to four digits",
+    '10000,12,"03E5",15': "its number is not one to four digits",
+    '-7,12,"03E5",15': "its number is not one to four digits",
+    ' 7,12,"03E5",15': "its number is not one to four digits alone: a blank stands there",
+    '7,1,"03E5",15': "its label is not two hex digits",
+    '7,1G,"03E5",15': "its label is not two hex digits",
+    '7, 12,"03E5",15': "its label is not two hex digits alone: a blank stands there",
+    '7,12,"03E5",255': "its flags are not one or two digits",
+    '7,12,"03E5",0F': "its flags are not one or two digits",
+    '7,12,"03E5",': "its flags are not one or two digits",
+    '7,12,"03E5",15 ': "its flags are not one or two digits alone: a blank stands there",
+    '7,12,"03E5",15,': "more than four fields stand in it",
+    "7,12,03E5,15,": "more than four fields stand in it",
+    "7,12,NORD,SUED,15": "more than four fields stand in it",
+    '7,12,"03E5,15': "a double quote opens the trace, and none closes it",
+    '7,12,"03E5"",15': "a double quote opens the trace, and none closes it",
+    '7,12,"': "a double quote opens the trace, and none closes it",
+    '7,12,"03E5"': "no comma stands behind the trace's closing quote",
+    '7,12,"03E5" ,15': "no comma stands behind the trace's closing quote; a quote in a trace is written twice",
+    '7,12,"NORD "A" SUED",15': "no comma stands behind the trace's closing quote; a quote in a trace is written twice",
+    "7": "no comma stands behind the number",
+    "7,12": "no comma stands behind the label",
+    "7,12,03E5": "no comma stands behind the trace",
+    '7;12;"03E5";15': "semicolons stand between its fields, and commas must",
+    SEVEN + "\r": "a CR stands before its LF",
+    '7,12,"' + "x" * 71 + '",15': "it has 81 bytes, and a line has at most 80",
+}
 # number: scripts, and the printed line in which it is given
 GIVEN = {
+    15: [(f"import {text_of(line)}\n", "import refused 15 1") for line in MALFORMED] + [
+        (f"import {text_of(SEVEN, '8,12,NORD-SUED 102,x')}\n", "import refused 15 2"), (f"import {text_of(SEVEN)[:-2]}\n", "import refused 15 1"), ("import 0A\n", "import refused 15 1"),
+        (f"import {text_of(SEVEN, '8,12,300000,15', end=b'')}\n", "import refused 15 2"), (f"import {text_of(SEVEN, '', '8,12,300000,15')}\n", "import refused 15 2"),
+        ("import " + text_of("7,12," + "x" * 74 + ",15") + "\n", "import refused 15 1"), ("import EFBBBF" + text_of(SEVEN) + "\n", "import refused 15 1")],
+    16: [(f"import {text_of(SEVEN, EIGHT)}\n", "import refused 16 2"), (f"import {text_of('7,12,300000,15')}\n", "import refused 16 1"), (f"import {text_of('7,00,,99')}\n", "import refused 16 1"),
+         ("import " + text_of("7,12," + "x" * 72 + ",15", "") + "\n", "import refused 16 1"), (f"import {text_of(INSIDE, SIXTEEN)}\n", "import refused 16 1")],
+    17: [(f"import {text_of(SEVEN, SIXTEEN)}\n", "import refused 17 2"), (f"import {text_of(QUOTES)}\n", "import refused 17 1"),
+         (f"import {text_of(UMLAUT, EIGHT)}\n", "import refused 17 1")],
+    18: [(f"import {text_of(SEVEN) * 513}\n", "import refused 18 513"), ("import " + "0A" * 600 + "\n", "import refused 18 513"), (f"import {text_of(SEVEN) * 512}41\n", "import refused 18 513")],
     1: [("src -\nlen 2357\nsink\n", "refused 1"), ("len 0\nsink\n", "refused 1")],
     3: [("src -\nlens 2348 2349\nsink\n", "refused 3"), ("lens 2349 0\nsrc -\nsink\n", "refused 3")],
     4: [('tx 00 "" 0 0\n', "tx refused 4"), ('tx ff "A" 0 0\nsrc -\n', "container refused 4"), ('rx 00 "" 0\n', "rx refused 4"), ('rx FF "A" 3\nrun 2\n', "refused 4"),
@@ -507,7 +710,15 @@ GIVEN = {
 for number, data in BAD.items():
     places = f"{number}{PLACES[number]}"
     pairs = f"pairs={2 if number == 13 else 0}"
-    GIVEN.setdefault(number, []).extend([(f"cat {data}\n", f"cat refused {places} {pairs}"), (f"lookup 7 {data}\n", f"lookup refused {places}"), (f"list {data}\n", places)])
+    GIVEN.setdefault(number, []).extend([(f"cat {data}\n", f"cat refused {places} {pairs}"), (f"lookup 7 {data}\n", f"lookup refused {places}"), (f"list {data}\n", places),
+                                         (f"export {data}\n", f"export refused {places}")])
+# and of a text the line: what a line's record is refused for
+TEXTS = {
+    11: (text_of(SEVEN, '0,FF,"",99'), "2"), 4: (text_of(SEVEN, '8,ff,"",99'), "2"), 5: (text_of(SEVEN, '8,12,"Nord\t",99'), "2 5"), 12: (text_of(SEVEN, '8,12,"NORD",16'), "2"),
+    13: (text_of(SEVEN, '8,12,"03E6",3', '9,02,"03E5 ",0'), "3 1"), 20: (text_of(SEVEN, '8,12,"""N"" \u00dc",3'), "2 5"), 21: (text_of(SEVEN, '8,12,"   ",3'), "2"),
+}
+for number, (data, places) in TEXTS.items():
+    GIVEN[number].append((f"import {data}\n", f"import refused {number} {places}"))
 
 
 def named_by(*traces):
@@ -534,13 +745,18 @@ COUNTED = {
 }
 # lines that no bench prints: a place too few or too many, or one that no character has; pairs where none are counted, and a catalogue check without
 NEVER = {
-    'rx 12 "" 0\n': ("rx refused 21 1", "rx refused 5", "rx refused 5 0", "rx refused 20 16", "rx refused 20 2 7", "rx refused 4 1", "rx refused 21 pairs=0"),
+    'rx 12 "" 0\n': ("rx refused 15", "rx refused 16 1", "rx refused 21 1", "rx refused 5", "rx refused 5 0", "rx refused 20 16", "rx refused 20 2 7", "rx refused 4 1", "rx refused 21 pairs=0"),
     "sink\n": ("refused 5", "refused 20 3 1", "refused 21 15", "refused 4 pairs=0"),
-    f"cat {GOOD}\n": ("cat refused 5 1 pairs=0", "cat refused 20 1 pairs=0", "cat refused 21 pairs=0", "cat refused 21 1 1 pairs=0", "cat refused 20 1 16 pairs=0", "cat refused 4 pairs=0",
+    f"cat {GOOD}\n": ("cat refused 15 1 pairs=0", "cat refused 18 513 pairs=0", "cat refused 5 1 pairs=0", "cat refused 20 1 pairs=0", "cat refused 21 pairs=0", "cat refused 21 1 1 pairs=0", "cat refused 20 1 16 pairs=0", "cat refused 4 pairs=0",
                       "cat refused 13 2 pairs=1", "cat refused 9 1 pairs=0", "cat ok 1 pairs=", "cat ok 1 pairs=-1", "cat ok 1 0", "cat ok 1 pairs=0 0", "cat ok 1 pairs=0 pairs=0", "cat ok pairs=0",
                       "cat pairs=0", "cat refused pairs=0", "cat refused 9 pairs=", "cat refused pairs=0 9", "cat refused 13 2 1 1"),
-    f"lookup 7 {GOOD}\n": ("lookup refused 14 1", "lookup refused 5 3", "lookup refused 14 pairs=0", "found 12 303345352020202020202020202020 15 pairs=0"),
-    f"list {GOOD}\n": ("20 1", "21", "5 1 0", "13 2", "9 pairs=0", "13 2 1 pairs=1"),
+    f"lookup 7 {GOOD}\n": ("lookup refused 15 1", "lookup refused 17 1", "lookup refused 14 1", "lookup refused 5 3", "lookup refused 14 pairs=0", "found 12 303345352020202020202020202020 15 pairs=0"),
+    f"list {GOOD}\n": ("20 1", "21", "5 1 0", "13 2", "9 pairs=0", "13 2 1 pairs=1", "15 1", "18 513"),
+    f"import {text_of(SEVEN)}\n": ("import refused 9", "import refused 10 1", "import refused 14", "import refused 14 1", "import refused 15", "import refused 16 1 1", "import refused 17", "import refused 18",
+                                   "import refused 18 512", "import refused 18 514", "import refused 4", "import refused 5 1", "import refused 5 1 16", "import refused 13 2", "import refused 21 1 1",
+                                   "import refused 16 1 pairs=0", "import refused", "import ok ", "import ok 5A", f"import ok {GOOD.lower()}", f"import ok {GOOD}00", f"import ok {GOOD} 0", "import"),
+    f"export {GOOD}\n": ("export refused 14", "export refused 15 1", "export refused 16 1", "export refused 17 1", "export refused 18 513", "export refused 9 1", "export refused 10", "export refused 5 1",
+                         "export refused 13 2", "export refused 12 1 pairs=0", "export ok ", "export ok 3", "export ok 0a", f"export ok {text_of(SEVEN)} 1", "export"),
 }
 # and lines that an earlier bench printed
 EARLIER = {f"cat {GOOD}\n": ("cat ok 1", "cat refused 9", "cat refused 13 2 1", "cat refused 20 1 3")}
@@ -577,6 +793,28 @@ DETAILS = {
     f"cat {BAD[13]}\n": 'catalogue refused 13 in record 3, as in record 1: two records have the same trace (circuit 9, trace "03E5           "; 2 pairs of traces were compared). ',
     f"lookup 7 {BAD[13]}\n": 'lookup refused 13 in record 3, as in record 1: two records have the same trace (circuit 9, trace "03E5           "). ',
     f"list {BAD[13]}\n": 'listing refused 13 in record 3, as in record 1: two records have the same trace (circuit 9, trace "03E5           "). ',
+    **{f"import {text_of(line)}\n": f"import refused 15 in line 1: a line of the text is malformed, or longer than 80 bytes (line 1 is {line[:97] if line[-1] != chr(13) else line[:-1] + '<0D>'}: {why}). A line is 7,12,"
+       for line, why in MALFORMED.items()},
+    f"import {text_of(SEVEN, '8,12,NORD-SUED 102,x')}\n": "import refused 15 in line 2: a line of the text is malformed, or longer than 80 bytes (line 2 is 8,12,NORD-SUED 102,x: its flags are not one or two digits). ",
+    f"import {text_of(SEVEN)[:-2]}\n": '(line 1 is 7,12,"03E5",15: no LF ends it). ',
+    "import 0A\n": "(line 1 is empty). ",
+    f"import {text_of(SEVEN, '', '8,12,300000,15')}\n": "(line 2 is empty). ",
+    "import EFBBBF" + text_of(SEVEN) + "\n": '(line 1 is <EF><BB><BF>7,12,"03E5",15: it begins with the mark of UTF-8, EF BB BF). ',
+    f"import {text_of(SEVEN, EIGHT)}\n": "import refused 16 in line 2: a trace is not in double quotes (line 2 is 8,FE,NORD-SUED 102,3). Do not just put quotes around it",
+    f"import {text_of(SEVEN, SIXTEEN)}\n": 'import refused 17 in line 2: a trace has more than 15 characters (line 2 is 9,12,"NORD-SUED 102 AB",3: its trace has 16 characters). Count',
+    f"import {text_of(UMLAUT, EIGHT)}\n": "its trace has 16 characters; each byte counts, and a sign above 7E may have two or more). Count",
+    f"import {text_of(SEVEN) * 513}\n": "import refused 18 in line 513: the text has more than 512 lines (it has 513 lines). ",
+    "import " + "0A" * 600 + "\n": "(it has 600 lines). ",
+    f"import {TEXTS[11][0]}\n": 'import refused 11 in line 2: a circuit number is 0 or above 9999 (line 2 is 0,FF,"",99: the number is 0). ',
+    f"import {TEXTS[4][0]}\n": '(line 2 is 8,ff,"",99: the label is FF). ',
+    f"import {TEXTS[5][0]}\n": 'import refused 5 in line 2 at character 5: a trace character is below 20, which is the space (line 2 is 8,12,"Nord<09>",99: character 5 of its trace is 09, TAB). ',
+    f"import {TEXTS[12][0]}\n": '(line 2 is 8,12,"NORD",16: the flags are 16). ',
+    f"import {TEXTS[13][0]}\n": 'import refused 13 in line 3, as in line 1: two records have the same trace (line 3 is 9,02,"03E5 ",0; line 1 is 7,12,"03E5",15). ',
+    f"import {TEXTS[20][0]}\n": 'import refused 20 in line 2 at character 5: a trace character is above 7E, which is ~ (line 2 is 8,12,"""N"" <C3><9C>",3: character 5 of its trace is C3, '
+                                'which with 9C is \u00dc in UTF-8). ',
+    f"import {TEXTS[21][0]}\n": '(line 2 is 8,12,"   ",3). The name is missing',
+    f"export {BAD[13]}\n": 'export refused 13 in record 3, as in record 1: two records have the same trace (circuit 9, trace "03E5           "). ',
+    f"export {BAD[20]}\n": "export refused 20 in record 3 at character 7: ",
     "src -\nlen 2357\nsink\n": "the line has 2357 bytes",
     "src -\nlens 2348 2349\nsink\n": "held has 2348, done 2349",
     'rx FF "A" 3\nrun 2\n': "sink refused 4, 2 times: ",
@@ -588,6 +826,15 @@ ANSWERS = {
     "cat\n": "cat: a good catalogue of no record, as an empty file is; no trace was compared with another",
     f"lookup 7 {GOOD}\n": 'lookup: circuit 7 has label 12 (140 Mbit/s), trace "03E5           ", flags 15 (monitored; RDI, SSF and AIS reported)',
     f"list {GOOD}{OTHER}\n": 'circuit 8: label 12 (140 Mbit/s), trace "03E6           ", flags 15 (monitored; RDI, SSF and AIS reported)',
+    "import\n": "import: no line makes a good catalogue of no circuit, as an empty file is",
+    f"import {text_of(SEVEN)}\n": "import: one line makes a good catalogue of one circuit:",
+    f"import {text_of(SEVEN, DOUBLED)}\n": 'line 2 is 0008,fe,"N""S",03: circuit 8, label FE (test signal), trace "N"S            ", flags 3 (monitored; RDI reported)',
+    "export\n": "export: no circuit, a text of no line",
+    f"export {GOOD}{OTHER}\n": "export: two circuits, a text of two lines:",
+    f"export {OTHER}{GOOD}\n": 'line 2 is 7,12,"03E5           ",15',
+    f"export {record(trace=hexed('N', 0x22, 'S'))}\n": 'line 1 is 9,02,"N""S            ",3',
+    "import 7\n": "HEX: 7 has 1 hex digits, and a byte has two",
+    "import 7,12\n": "HEX: , in 7,12 is no hex digit",
     "parity 0102\n": "parity: 03, of 2 bytes",
     "check 8B" + b"03E5".ljust(15).hex() + "\n": 'check: a good trace message, start byte 8B, trace "03E5           "',
     "check 8B30\n": "check: no good trace message: it has 2 bytes, and a message has 16",
@@ -696,6 +943,14 @@ def look_at_refusals(program, refusals, fault):
             fault(name, f"the bench prints {printed}")
         if not any(said in each for each in told):
             fault(name, f"nowhere `{said}`: {told}")
+    # another number of circuits than the text has lines is no answer to it
+    for text, line in ((f"import {text_of(SEVEN)}\n", "import ok"), (f"import {text_of(SEVEN)}\n", f"import ok {GOOD}{OTHER}"), ("import\n", f"import ok {GOOD}"),
+                       (f"export {GOOD}\n", "export ok"), (f"export {GOOD}\n", f"export ok {text_of(SEVEN, SEVEN)}")):
+        try:
+            fault("import", f"`{line}` is told: {told_of(text.encode(), [line])}")
+        except scripts.Fault as wrong:
+            if "the answer has more circuits or fewer" not in str(wrong):
+                fault("import", f"`{line}`: {wrong}")
     # a raw byte of another code in quotes is a byte like any other
     look_at_script("a byte of Latin-1", b'rx 12 "NORD-S\xdcD" 15\nsink\n', program, refusals, fault)
     for text, wanted in ANSWERS.items():
@@ -703,6 +958,31 @@ def look_at_refusals(program, refusals, fault):
         _, told, _ = look_at_script(name, text.encode(), program, refusals, fault)
         if not any(wanted in each for each in told):
             fault(name, f"nowhere `{wanted}`: {[each[:200] for each in told[-3:]]}")
+
+
+def look_at_lines(fault):
+    """Lines of texts, good ones spoiled at random: one has a reason exactly if it is malformed, and the reason is true of it."""
+    dice, seen = random.Random(15), set()
+    for _ in range(20_000):
+        line = bytearray(dice.choice((SEVEN, EIGHT, SIXTEEN, '0,00,"a""b",9', "1,12,,1", *MALFORMED)).encode())
+        for _ in range(dice.randrange(4)):
+            place = dice.randrange(len(line) + 1)
+            line[place : place + dice.randrange(3)] = dice.choice((b"", b'"', b",", b" ", b";", b"\r", b"\xef\xbb\xbf", b'""', b"7", b"x", b'",', b"x" * 60))
+        line, ended = bytes(line), dice.random() < 0.95
+        good = WELL_FORMED.fullmatch(line) if ended and len(line) <= 80 else None
+        try:
+            fields, why = scripts.text_line(line, ended), None
+        except scripts.Wrong as wrong:
+            fields, why = None, str(wrong)
+        if (good is None) != (fields is None) or why and line and not reason_is_true(why, line, ended):
+            fault("lines of a text", f"{line}: {why}")
+        if good and fields:
+            trace = good[3][1:-1].replace(b'""', b'"') if good[3][:1] == b'"' else None
+            if fields != {"circuit": int(good[1]), "label": int(good[2], 16), "trace": trace, "flags": int(good[4])}:
+                fault("lines of a text", f"{line}: {fields}")
+        seen.add(re.sub(r"\d+ bytes", "N bytes", why) if why else None)
+    if len(seen) < len(REASONS) + 2:  # and nothing in it, and no reason
+        fault("lines of a text", f"only {len(seen)} reasons are met: {seen}")
 
 
 def look_at_traces(program, page, fault):
@@ -727,6 +1007,18 @@ def look_at_examples(name, page, fault):
             fault(name, f"no bench prints `{text}`")
     if not examples:
         fault(name, "it does not say what `cat` prints")
+
+
+def look_at_played(program, name, page, fault):
+    """An import or export that a page sets out with its answer below is answered so."""
+    lines = page.split("\n")
+    played = [(line.strip(), lines[number].strip()) for number, line in enumerate(lines[:-1], 1) if re.fullmatch(r"    (import|export) [0-9A-F]+", line)]
+    for line, answer in played:
+        printed = lines_of(play(program, f"{line}\n".encode(), name))
+        if printed != [answer]:
+            fault(name, f"`{line}` prints {printed}, not {answer}")
+    if {line.split(" ")[0] for line, _ in played} != {"import", "export"}:
+        fault(name, "it has no example of import, or none of export")
 
 
 def look_at_rows(program, card, fault):
@@ -811,6 +1103,9 @@ def random_script(seed, lines):
         "cat": lambda: f"cat {pick((GOOD, GOOD + OTHER, '', hexes(), named_by(*[dice.randrange(9) for _ in range(dice.randrange(9))]), *BAD.values()))}",
         "lookup": lambda: f"lookup {pick((7, 8, 0, 10000, 999999999, 1000000000))} {pick((GOOD, BAD[5], BAD[13], BAD[20], BAD[21], ''))}",
         "list": lambda: f"list {pick((GOOD, GOOD + OTHER, '', BAD[4], BAD[5], BAD[20], BAD[21], hexes()))}",
+        "import": lambda: f"import {pick((text_of(*[pick((SEVEN, SEVEN, EIGHT, SIXTEEN, *MALFORMED)) for _ in range(dice.randrange(1, 4))]), '', hexes(), *[text for text, _ in TEXTS.values()]))}",
+        "sheet": lambda: f"import {text_of(*[f'{dice.randrange(1, 10000)},{dice.randrange(1, 255):02x},`{number:x}`,{dice.randrange(16)}'.replace('`', chr(34)) for number in range(dice.randrange(1, 5))])}",
+        "export": lambda: f"export {pick((GOOD, GOOD + OTHER, '', hexes(), named_by(*[dice.randrange(9) for _ in range(dice.randrange(5))]), *BAD.values()))}",
         "parity": lambda: f"parity {hexes()}",
         "check": lambda: f"check {pick(('8B' + b'03E5'.ljust(15).hex(), hexes(20)))}",
         "read": lambda: f"read {hexes(4)}",
@@ -961,14 +1256,15 @@ def look_at_desk(folder, program, everything, lesson, data, fault):
     if [line.strip() for line in done.split("\n") if re.match(r" {4}(parity|\?) ", line)] != ["parity 03", "? 2", "? 4"] or "parity: 01" in done:
         fault("desk", f"--raw, or the numbers of lines, or quit: {done[-400:]}")
     # help
-    done = run([sys.executable, DESK, "--bench", *program], b"help\nhelp sink\nhelp 4\nhelp 5\nhelp 20\nhelp 21\nhelp 15\nhelp cTIM\nhelp cat\nhelp nothing\n").stdout.decode()
+    done = run([sys.executable, DESK, "--bench", *program], b"help\nhelp sink\nhelp 4\nhelp 5\nhelp 20\nhelp 21\nhelp 16\nhelp 19\nhelp import\nhelp cTIM\nhelp cat\nhelp nothing\n").stdout.decode()
     for name in scripts.COMMANDS:
         if not re.search(rf"^  {re.escape(scripts.form(name))}  ", done, re.MULTILINE):
             fault("desk", f"help has no {name}")
     joined = " ".join(done.split())
     for text in ["st=", "off=", "held=", "ended=", "c=", "ssf=", "tsf=", "ais=", "rdi=", "d=", "cause=", "settled=", "total=", "hb=", "db=",
                  "refusal 4: label 00 means", "refusal 5: a trace character is below 20, which is the space. Look", "refusal 20: a trace character is above 7E, which is ~. Look",
-                 "refusal 21: all fifteen characters of the trace are spaces, which nobody means. The name is missing", "There is no help on 15",
+                 "refusal 21: all fifteen characters of the trace are spaces, which nobody means. The name is missing", "refusal 16: a trace is not in double quotes. Do not just put quotes around it", "There is no help on 19",
+                 'import HEX: the catalogue of a text whose bytes these are; a line of it is 7,12,"03E5",15 and an LF (0A)',
                  "cTIM (HP-TIM): trace mismatch: ", "cat HEX: the check of a catalogue of these bytes; pairs= is how many pairs of traces it compared", "There is no help on nothing"]:
         if text not in joined:
             fault("desk", f"help does not say {text}")
@@ -1020,6 +1316,8 @@ def look_at_checks(program, pages, refusals, fault):
 
     base = b'rx 12 "03E5" 15\nrun 70\ntx 12 "03E6" 2 0\nrun 60\nones\nsink\nsink\nsink\nsnk\nrun 9\nsrc i\nsink\nrun 4\nsrc d\nxor 300 07\nsink\nrun 3\nfresh\nrx 00 "" 0 # ends\nrun 2\n'
     base += f'rx 12 {TAB} 15\nsink\ntx 12 {hexed("NORD-S", 0xDC, "D")} 0 0\nsrc -\nrx 12 "" 15\nsink\ncat {BAD[5]}\ncat {BAD[20]}\nlookup 7 {BAD[20]}\nlist {BAD[20]}\ncat {BAD[21]}\n'.encode()
+    base += f"import {text_of(SEVEN, EIGHT)}\nimport {text_of(SEVEN, SIXTEEN)}\nimport {text_of(list(MALFORMED)[0])}\nimport {TEXTS[20][0]}\nimport {TEXTS[13][0]}\n".encode()
+    base += f"import {text_of(SEVEN, SEVEN.replace('03E5', 'N').replace('7', '8'))}\nexport {OTHER}{GOOD}\nexport {BAD[12]}\nimport\nimport {text_of(SEVEN) * 513}\n".encode()
     base += f"cat\ncat {named_by(1)}\ncat {named_by(1, 2)}\ncat {named_by(1, 2, 3)}\ncat {BAD[13]}\nlookup 7 {BAD[13]}\ncat {named_by(1, 1)}\n".encode()
     printed = lines_of(play(program, base, "these checks"))
     told = told_of(base, printed)
@@ -1075,6 +1373,22 @@ def look_at_checks(program, pages, refusals, fault):
         "none left out with 20": change("in Latin-1; no trace was compared with another)", "in Latin-1)"), "none left out with 21": change("(circuit 9; no trace was compared with another)", "(circuit 9)"),
         "pairs behind the advice": change("; 2 pairs of traces were compared). Ask both far ends what they send", "). Ask both far ends what they send; 2 pairs of traces were compared"),
         "pairs of a lookup": [text.replace(")", "; 2 pairs of traces were compared)", 1) if text.startswith("lookup refused 13") else text for text in told],
+        # texts: which line, as it stands, and why; how many circuits, and each line of a good one
+        "another line of a text": change("import refused 16 in line 2", "import refused 16 in line 1"), "a record for a line": change("import refused 16 in line 2", "import refused 16 in record 2"),
+        "a line for a record": change("export refused 12 in record 2", "export refused 12 in line 2"), "no line of a text": change("import refused 17 in line 2", "import refused 17"),
+        "another text": change("(line 2 is 8,FE,NORD-SUED 102,3)", "(line 2 is 8,FE,NORD-SUED 103,3)"), "no text": change(" (line 2 is 8,FE,NORD-SUED 102,3)", ""),
+        "quotes put in": change("8,FE,NORD-SUED 102,3)", '8,FE,"NORD-SUED 102",3)'), "another reason": change("its label is in quotes", "its number is in quotes"),
+        "no reason": change(': its label is in quotes, and only the trace may be)', ")"), "a reason that is none": change("its label is in quotes, and only the trace may be", "it is wrong"),
+        "how long a trace is": change("its trace has 16 characters", "its trace has 17 characters"), "words of 16": change("a trace is not in double quotes", "a trace has more than 15 characters"),
+        "another character of a line": change("character 5 of its trace is C3", "character 4 of its trace is C3"), "another byte of a line": change("character 5 of its trace is C3", "character 5 of its trace is DC"),
+        "another first line": change("; line 1 is 7,12,", "; line 2 is 7,12,"), "no first line": change('; line 1 is 7,12,"03E5",15)', ")"), "how many lines": change("(it has 513 lines)", "(it has 514 lines)"),
+        "another number of circuits": change("import: two lines make a good catalogue of two", "import: two lines make a good catalogue of one"), "an import left out": [text for text in told if not text.startswith("import: two")],
+        "an empty text": change("no circuit, as an empty file is", "no circuit"), "an import's line left out": [text for text in told if not text.startswith('line 2 is 8,12,"N"')],
+        "an import's line": change('line 2 is 8,12,"N",15', 'line 2 is 8,12,"M",15'), "its circuit": change('"N",15: circuit 8', '"N",15: circuit 7'), "its trace": change('trace "N              ", flags', 'trace "N", flags'),
+        "its flags": change('trace "N              ", flags 15', 'trace "N              ", flags 14'), "its label": change('"N",15: circuit 8, label 12', '"N",15: circuit 8, label 02'),
+        "an export's line": change('line 1 is 8,12,"03E6           ",15', 'line 1 is 8,12,"03E6",15'), "an export's lines in another order": change('line 1 is 8,12,"03E6', 'line 2 is 8,12,"03E6'),
+        "another number of lines": change("export: two circuits, a text of two lines", "export: two circuits, a text of 3 lines"), "an export left out": [text for text in told if not text.startswith("export: two")],
+        "the advice of 16": change("Do not just put quotes around it", "Put quotes around it"),
         "pairs of a setting": change("of the expected trace is 09, TAB)", "of the expected trace is 09, TAB; no trace was compared with another)"),
     }
     if any(texts == told for texts in words.values()):
@@ -1091,6 +1405,9 @@ def look_at_checks(program, pages, refusals, fault):
              ("cat ok 3 pairs=3", "cat ok 3 pairs=6"), ("cat ok 3 pairs=3", "cat ok 3 pairs=2"), ("cat ok 3 pairs=3", "cat ok 2 pairs=3"), ("cat ok 3 pairs=3", "cat ok 3"), ("cat ok 2 pairs=1", "cat ok 2 pairs=2"),
              ("cat ok 1 pairs=0", "cat ok 1 pairs=1"), ("cat ok 0 pairs=0", "cat ok 0 pairs=1"), ("cat ok 3 pairs=3", "cat refused 13 3 2 pairs=3"), ("cat refused 13 3 1 pairs=2", "cat refused 13 3 1 pairs=1"),
              ("cat refused 13 3 1 pairs=2", "cat refused 13 3 2 pairs=2"), ("cat refused 13 3 1 pairs=2", "cat refused 13 3 1"), ("cat refused 13 2 1 pairs=1", "cat refused 13 2 1 pairs=0"),
+             ("import refused 16 2", "import refused 16 1"), ("import refused 16 2", "import refused 15 2"), ("import refused 17 2", "import refused 16 2"), ("import refused 17 2", "import refused 17 1"),
+             ("import refused 15 1", "import refused 16 1"), ("import refused 20 2 5", "import refused 20 2 4"), ("import refused 13 3 1", "import refused 13 3 2"), ("import refused 18 513", "import refused 15 1"),
+             ("import ok 5A4D000712", "import ok 5A4D000812"), ("export ok 382C", "export ok 392C"), ("export refused 12 2", "export refused 12 1"), ("import ok", f"import ok {GOOD}"),
              ("cat refused 5 2 5 pairs=0", "cat refused 5 2 5 pairs=1"), ("cat refused 21 2 pairs=0", "cat refused 21 2")]
     for old, new in lines:
         place = next((place for place, text in enumerate(printed) if text == old), None)  # the whole line, or the first that has it
@@ -1113,16 +1430,26 @@ def look_at_checks(program, pages, refusals, fault):
             fault("these checks", f"nothing to change in brief: {name}")
         seeded += 1
         tried(f"brief without {name}", lambda texts=texts: look_at_brief("spoiled", printed, told, texts, note))
+    for name, texts in (("a line of a text", [text.replace("line 2 is 8,FE,NORD-SUED 102,3", "line 2") for text in brief]), ("a reason", [text.replace(": its label is in quotes, and only the trace may be", "") for text in brief]),
+                        ("the right line", [text.replace("8,FE,NORD-SUED 102,3", "8,FE,NORD-SUED 103,3") for text in brief]), ("an import", [text for text in brief if not text.startswith("import: two")]),
+                        ("the right circuits", [text.replace("catalogue of two circuits", "catalogue of 3 circuits") for text in brief]), ("few words", [text.replace("two circuits, a text of", "two circuits: a text of") for text in brief])):
+        if texts == brief:
+            fault("these checks", f"nothing to change in brief: {name}")
+        seeded += 1
+        tried(f"brief without {name}", lambda texts=texts: look_at_sheets("spoiled", base, printed, texts, refusals, note, brief=True))
     # pages
     page, glossary, header, card = pages
     for name, changed in (("a word of the glossary", (page, glossary.replace("| 7 | an adjustment", "| 7 | a change"), header, card)),
                           ("a word of the header", (page, glossary, header.replace("flags are above 15", "flags above 15"), card)),
                           ("a word of the page", (page.replace("| 14 | the circuit is not listed", "| 14 | the circuit is unknown"), glossary, header, card)),
-                          ("a number", (page.replace("| 8 | the state", "| 15 | the state"), glossary, header, card)),
+                          ("a number", (page.replace("| 8 | the state", "| 19 | the state"), glossary, header, card)),
                           ("an order", (page.replace("| sink | 8, 4, 5/20/21, 1, 3 |", "| sink | 8, 4, 5/20/21, 3, 1 |"), glossary, header, card)),
                           ("a number of an order", (page.replace("| `rx` | 4, 5/20/21 |", "| `rx` | 4, 5/21 |"), glossary, header, card)),
                           ("a word of 20 in the glossary", (page, glossary.replace("| 20 | a trace character is above", "| 20 | a character is above"), header, card)),
                           ("a word of 21 in the header", (page, glossary, header.replace("spaces, which nobody means", "spaces"), card)),
+                          ("a word of 16 in the glossary", (page, glossary.replace("| 16 | a trace is not in", "| 16 | a trace is in no"), header, card)),
+                          ("the order of import", (page.replace("18; line by line 15, 16, 17;", "18; line by line 16, 15, 17;"), glossary, header, card)),
+                          ("who gives 16", (page.replace("| import |\n| 17 |", "| import, export |\n| 17 |"), glossary, header, card)),
                           ("who gives it", (page.replace("| unit source, sink |", "| unit source |", 1), glossary, header, card)),
                           ("the card's order", (page, glossary, header, card.replace("| payload call | 3, 2 |", "| payload call | 2, 3 |"))),
                           ("a tester's name", (page, glossary.replace("| HP-TIM |", "| HP-PLM |"), header, card)),
@@ -1140,7 +1467,12 @@ def look_at_checks(program, pages, refusals, fault):
                       ("other pairs of a good catalogue on a page", "13 3 1 pairs=2` and `cat ok 4 pairs=4")):
         trials += 1
         tried(name, lambda new=new: look_at_examples("spoiled", page.replace("13 3 1 pairs=2", new), note))
-    return len(words) + len(lines) + seeded + trials + 13
+    bench_page = read("docs/BENCH.md").decode()
+    for name, old, new in (("another answer on a page", "import refused 16 1\n", "import refused 15 1\n"), ("another text on a page", "export ok 372C", "export ok 382C"),
+                           ("no example on a page", "    import 372C", "import 372C")):
+        trials += 1
+        tried(name, lambda old=old, new=new: look_at_played(program, "spoiled", bench_page.replace(old, new), note))
+    return len(words) + len(lines) + seeded + trials + 16
 
 
 # ---------------------------------------------------------------------------
@@ -1172,9 +1504,11 @@ def main():
             if again != told:
                 fault(name, "other words with CR LF and a byte order mark")
     look_at_refusals(program, refusals, fault)
+    look_at_lines(fault)
     look_at_traces(program, pages[0], fault)
     look_at_examples("REFUSALS.md", pages[0], fault)
     look_at_examples("BENCH.md", read("docs/BENCH.md").decode(), fault)
+    look_at_played(program, "BENCH.md", read("docs/BENCH.md").decode(), fault)
     look_at_rows(program, pages[3], fault)
     look_at_bytes(program, fault)
     for seed in range(4):
@@ -1186,7 +1520,7 @@ def main():
     seeded = look_at_checks(program, pages, refusals, fault)
     count = sum(map(len, failures.values()))
     print(f"explain: {len(names)} scripts and {checked['runs']} runs, {checked['units']} units in {checked['sentences']} sentences, {checked['refusals']} refusals, {checked['catalogues']} good catalogues, "
-          f"{checked['strange']} lines not understood; refusals 1 to 14, 20 and 21, of which the bench cannot give 2 and 8; brief at most {longest} lines; "
+          f"{checked['sheets']} imports and exports, {checked['strange']} lines not understood; refusals 1 to 18, 20 and 21, of which the bench cannot give 2 and 8; brief at most {longest} lines; "
           f"{seeded} faults put in are found; {f'{count} faults' if count else 'all as printed'}")
     if count:
         sys.exit(1)

@@ -5,13 +5,14 @@
 
 PROGRAM with its ARGS reads a script of the bench on standard input: `target/host/second bench`, or
 `target/bin/bench`. Each lessons/NAME.bench is played and must print lessons/NAME.out; the first line
-that differs is printed with its number. Then the scripts themselves are looked at. Five comments of a
+that differs is printed with its number. Then the scripts themselves are looked at. Six comments of a
 script are read by this test:
 
     # see: WORDS          behind a command, on its line or the next: the words stand in the line that it printed last, in this order
                           (`c=U@9,F,v=0,fe=0` is four words; `d=dTIM,dPLM` is one)
     # row P1: ..          the unit that is fed next has the word of that row of the pointer table; ROWS says what must follow
     # not understood: ..  the next line prints `? N`; no other line may
+    #   7,12,"03E5",15     set in, above `import` and `export`: the lines of the text that is given or printed, `<CR>` and `<no LF>` where that is so
     # Question: and # Answer:   one of each, and the same question stands in lessons/README.md
     # Rules in docs/CARD.md: ..   one; each number in it is a rule of that page
 
@@ -33,7 +34,7 @@ FOLDER = os.path.join(ROOT, "lessons")
 CARD = "docs/CARD.md"
 HOUR = 60  # minutes for all of them
 PAGES = ("lessons/README.md", "docs/GLOSSARY.md")
-PRINTING = ("src", "sink", "show", "payload", "cat", "lookup", "list", "parity", "check", "read")
+PRINTING = ("src", "sink", "show", "payload", "cat", "lookup", "list", "import", "export", "parity", "check", "read")
 SETTINGS = ("tx", "rx")
 HEADING = "circuit label trace flags"
 RECORD = 42  # hex digits of a catalogue's record
@@ -57,8 +58,8 @@ ROWS = {
     "P12": (5, 0x1801, "new data", 1, 0),
 }
 # Lessons that more is asked of than that they print what is kept
-STEPS, TOGETHER, MOST, NOTHING, WHICH, PAIRS = ("05-none-one-or-two", "07-two-causes", "13-exactly-66", "14-unequipped", "16-which-character",
-                                                "17-pairs-counted")
+STEPS, TOGETHER, MOST, NOTHING, WHICH, PAIRS, SHEET = ("05-none-one-or-two", "07-two-causes", "13-exactly-66", "14-unequipped", "16-which-character",
+                                                       "17-pairs-counted", "18-the-sheet")
 LONGEST = 512  # records of a catalogue
 
 
@@ -353,6 +354,42 @@ def look_at_pairs(lesson, fault):
             fault(place, f"nothing is said of the pairs of {count} records")
 
 
+def sheets(lesson):
+    """Each import and export: what it was given, and what it answered where it was not refused, as bytes."""
+    for one in lesson.shown:
+        if one.command in ("import", "export"):
+            given = bytes.fromhex("".join(read_line(lesson.script[one.number - 1])[0][1:]))
+            made = re.fullmatch(rf"{one.command} ok ?([0-9A-F]*)", one.lines[0])
+            yield one, given, bytes.fromhex(made[1]) if made else None
+
+
+def look_at_texts(lesson, fault):
+    """The text that stands above an import is the one that it is given, and above an export the one that it prints."""
+    for one, given, made in sheets(lesson):
+        first = one.number - 1
+        while lesson.script[first - 1].startswith("#   "):
+            first -= 1
+        text = "".join(f"{line[4:]}\n" for line in lesson.script[first : one.number - 1]).replace("<CR>", "\r").replace("<no LF>\n", "")
+        if (given if one.command == "import" else made) != text.encode():
+            fault(f"{lesson.name}.bench:{one.number}", f"above it stands another text than its bytes are: {text!r}")
+
+
+def look_at_sheet(lesson, fault):
+    """A sheet as it came, mended line by line, imported, exported and imported again; what is malformed, too long, or twice; and 300000, with quotes and without."""
+    place, said = f"{lesson.name}.bench", list(sheets(lesson))
+    for wanted in ("import refused 15 2", "import refused 16 1", "import refused 16 2", "import refused 17 2", "import refused 13 2 1"):
+        if not any(one.lines[0] == wanted for one, _, _ in said):
+            fault(place, f"nothing is answered with {wanted}")
+    back = [(given, made) for one, given, made in said if one.command == "export"]
+    if not any(one.command == "import" and (made, given) in back for one, given, made in said):
+        fault(place, "no text that was exported is imported again, as the same catalogue")
+    for wanted, number in ((b',300000,', "16"), (b',"300000",', None), (b'""', None), (b"\r\n", "15")):
+        if not any(one.command == "import" and wanted in given and (made is not None if number is None else f" refused {number} " in one.lines[0]) for one, given, made in said):
+            fault(place, f"no import with {wanted} is {f'refused with {number}' if number else 'good'}")
+    if not any(one.command == "import" and not given.endswith(b"\n") and given and " refused 15 " in one.lines[0] for one, given, _ in said):
+        fault(place, "no last line without its LF is refused with 15")
+
+
 def look_at_most(lesson, fault):
     place = f"{lesson.name}.bench"
     told = [(one.field("settled"), one.field("total")) for one in lesson.sinks()]
@@ -422,13 +459,14 @@ def main():
         look_at_questions(lesson, pages[PAGES[0]], fault)
         look_at_rules(lesson, card, fault)
         look_at_checks(lesson, fault)
+        look_at_texts(lesson, fault)
     look_at_rows(lessons, pages[PAGES[0]], fault)
     minutes = sum(int(said) for said in re.findall(r"^\*\*.*\*\* \((\d+)\)$", pages[PAGES[0]], re.MULTILINE))
     if not 0 < minutes <= HOUR:
         fault(PAGES[0], f"the lessons take {minutes} minutes")
     by_name = {lesson.name: lesson for lesson in lessons}
     for name, look in ((STEPS, look_at_steps), (TOGETHER, look_at_together), (MOST, look_at_most), (NOTHING, look_at_nothing), (WHICH, look_at_which),
-                       (PAIRS, look_at_pairs)):
+                       (PAIRS, look_at_pairs), (SHEET, look_at_sheet)):
         if name in by_name:
             look(by_name[name], fault)
         else:

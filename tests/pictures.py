@@ -38,6 +38,7 @@ OTHERS = ["crates.svg"]  # no run: tools/crates.py makes and compares it
 NAMES = "dUNEQ dTIM dPLM dRDI SSF TSF AIS RDI cAIS cLOP cSSF cUNEQ cTIM cRDI cPLM".split(" ")
 ON_TESTER = dict(zip(NAMES[8:], "AU-AIS AU-LOP HP-SSF HP-UNEQ HP-TIM HP-RDI HP-PLM".split(" ")))
 NEAR = 3  # how far a bar's edge may lie from the edge of a cell
+CATALOGUES = ("cat", "lookup", "list", "export")  # commands that are given a catalogue
 NARROW = "fijlrtI .,:;'\"!|()[]-\u00a0"
 SCREEN, PAGE = (1920, 1080), (277, 190)  # dots; millimetres within the margins of A4, laid across
 LEAST_DOTS, LEAST_MILLIMETRES = 9, 1.3  # of the smallest letters on them, in the scripts of examples and lessons
@@ -57,6 +58,8 @@ def fault(what, text):
 RECORD, OTHER_RECORD = "5A4D0007123033453520202020202020202020200F", "5A4D00081220202020205D20205B202020202020200F"
 RECORDS = "".join(f"5A4D{k:04X}12{k + 65:02X}{'20' * 14}0F" for k in range(1, 13))
 BELOW, ABOVE, SPACES = (f"5A4D000912{trace}0F" for trace in (f"30330045{'20' * 11}", f"{'20' * 14}7F", "20" * 15))
+LINES = b'7,12,"03E5 ",15\n8,FE,NORD  SUED,3\n'.hex().upper()
+NAMED = "".join(f'{k},12,"] {k}""[ LF",15\n' for k in range(1, 11)).encode().hex()
 # What the examples do not have: lines of other lengths among units, all that can be done to a line, refusals of every call, at places where
 # the sink is called next and where it is not, lines that are not understood or not about the path, questions between notes, traces with blanks,
 # quotes and brackets in them, comments behind commands, characters that XML has for itself.
@@ -137,6 +140,20 @@ cat {RECORD}{BELOW}
 lookup 7 {RECORD}{RECORDS}{ABOVE}
 list {ABOVE}{BELOW}
 list {RECORD}{SPACES} # an empty cell
+export {RECORD}{OTHER_RECORD}
+export {RECORDS}
+export {RECORD}{ABOVE}
+export {BELOW[:-2]}
+export
+import
+import {LINES}
+import {LINES * 9}
+import {LINES}372C31322C41 # no LF
+import {LINES}0A
+import 0A372C31322C41
+import 382C31322C22612222622009222C31350A # a doubled quote, a blank and a TAB
+import {LINES}{"41" * 81}0A
+import {NAMED}
 parity {"0102" * 120}
 check
 check 8B{"41" * 15}
@@ -230,6 +247,25 @@ def trace_shown(data):
 def prose(text):
     text = text if len(text) <= 1000 else text[:1000] + "..."
     return squeezed(re.sub('"[^"]{1,15}"', lambda found: found[0].replace(" ", BLANK), text))
+
+
+def shown_as_text(data):
+    """Whether the lines of a text are drawn as they stand: all of them, if none is too long and each character can be shown."""
+    return re.fullmatch(rb"([ -~]{0,80}\n)*[ -~]{0,80}", data) is not None
+
+
+def drawn_lines(what, data):
+    """The lines in which a catalogue or a text that was answered stands."""
+    if what == "text":
+        lines = [f"[{line}] LF" for line in data.decode("ascii").split("\n")[:-1]]
+    else:
+        lines = [f"{data[k : k + 2].hex()} {data[k + 2 : k + 4].hex()} {data[k + 4 : k + 5].hex()} ".upper() + f"[{data[k + 5 : k + 20].decode('ascii')}] {data[k + 20]:02X}" for k in range(0, len(data), 21)]
+    return lines if len(lines) <= 8 else lines[:8] + [f"and so on: {len(data)} bytes"]
+
+
+def trace_of_line(data, number):
+    """The characters of the trace in a line of a text, doubled quotes made one."""
+    return re.match(rb'[^,]*,[^,]*,"((?:[^"]|"")*)",', data.split(b"\n")[number - 1])[1].replace(b'""', b'"')
 
 
 class Reading:
@@ -335,15 +371,19 @@ class Reading:
         name, *given = words
         if name != "sink":
             self.source_alone()
-        if name in ("cat", "lookup", "list", "parity", "check", "read"):
+        if name in ("cat", "lookup", "list", "import", "export", "parity", "check", "read"):
             data = given[-1] if len(given) > (name == "lookup") else ""
             answers = [self.take()]
             while answers[0].startswith("circuit ") and len(answers) <= len(data) // 42:
                 answers.append(self.take())
             number = f" {int(given[0])}" if name == "lookup" else ""
             answers = answers[1:] or answers
-            refused = re.fullmatch(r"(?:(?:cat|lookup) refused )?(?:5|20) (\d+) (\d+)(?: pairs=0)?", answers[0]) if name in ("cat", "lookup", "list") else None
-            more = [f"record {refused[1]}, {character_in(bytes.fromhex(data)[21 * int(refused[1]) - 16 :], int(refused[2]))}"] if refused else []
+            made = re.fullmatch(r"((import|export) ok)(?: ([0-9A-F]+))?", answers[0])
+            if made:
+                answers = [made[1]] + (drawn_lines("text" if made[2] == "export" else "catalogue", bytes.fromhex(made[3])) if made[3] else [])
+            refused = re.fullmatch(r"(?:(?:cat|lookup|export) refused )?(?:5|20) (\d+) (\d+)(?: pairs=0)?", answers[0]) if name in CATALOGUES else None
+            of_text = re.fullmatch(r"import refused (?:5|20) (\d+) (\d+)", answers[0])
+            more = [f"line {of_text[1]}, {character_in(trace_of_line(bytes.fromhex(data), int(of_text[1])), int(of_text[2]))}"] if of_text else [f"record {refused[1]}, {character_in(bytes.fromhex(data)[21 * int(refused[1]) - 16 :], int(refused[2]))}"] if refused else []
             self.remarks.append((self.units_before(), told + behind, name + number, data.upper(), answers, more))
             return
         own = ""
@@ -400,9 +440,11 @@ class Reading:
                 units, comment, asked, data, answers, more = remark
                 head = "" if units == when or not any(call.unit for call in self.calls) else f"afterunit{units}" if units else "beforeunit1"
                 when = units
-                most = 8 * (42 if asked.split(" ")[0] in ("cat", "lookup", "list") and len(data) % 42 == 0 else 48)  # digits that are drawn
+                most = 8 * (42 if asked.split(" ")[0] in CATALOGUES and len(data) % 42 == 0 else 48)  # digits that are drawn
+                if asked == "import" and shown_as_text(bytes.fromhex(data)):
+                    most = 2 * sum(len(line) for line in bytes.fromhex(data).splitlines(keepends=True)[:8])
                 data = data if len(data) <= most else f"{data[:most]}({len(data) // 2})"
-                answers = (answers if len(answers) <= 8 else answers[:8] + [f"and so on: {len(answers)} lines"]) + more
+                answers = (answers if len(answers) <= 8 or answers[0].endswith(" ok") else answers[:8] + [f"and so on: {len(answers)} lines"]) + more
                 merged.append([f"{head}{comment}<{asked}|{data}|{'|'.join(answers)}>"])
                 continue
             place, text = remark
@@ -555,12 +597,12 @@ class Picture:
 
 
 def digits_of(text):
-    """The hex digits of bytes that are drawn: a trace stands in brackets. Of many bytes the number is told, in parentheses."""
+    """The hex digits of bytes that are drawn: a trace, or a line of a text, stands in brackets. Of many bytes the number is told, in parentheses."""
     more = re.fullmatch(r"and\u00a0so\u00a0on:\u00a0(\d+)\u00a0bytes", text)
     if more or text == "no\u00a0bytes":
         return f"({more[1]})" if more else ""
     text = re.sub(r"\[(.*)\]", lambda found: found[1].replace(BLANK, " ").encode("ascii").hex().upper(), text)
-    return text.replace("\u00a0", "")
+    return re.sub("LF$", "0A", text).replace("\u00a0", "")
 
 
 def intervals(calls, name):
@@ -892,6 +934,18 @@ DAMAGE = {
         ("all pairs of a repeat", r"\u00a013\u00a03\u00a02\u00a0pairs=3<", "\u00a013\u00a03\u00a02\u00a0pairs=6<", None),
         ("pairs before the repeat", r"\u00a012\u00a04\u00a0pairs=0<", "\u00a012\u00a04\u00a0pairs=1<", None),
         ("pairs of a lookup", r"(>found\u00a012\u00a0[0-9A-F]+\u00a015)<", "\\1\u00a0pairs=6<", None),
+    ],
+    "lessons/18-the-sheet.bench": [
+        ("another line", r">import\u00a0refused\u00a016\u00a02<", ">import\u00a0refused\u00a016\u00a01<", None),
+        ("another number", r">import\u00a0refused\u00a017\u00a02<", ">import\u00a0refused\u00a016\u00a02<", None),
+        ("quotes left out", r'>\[7,12,"03E5",15\]', ">[7,12,03E5,15]", None),
+        ("an LF too few", r">\[7,12,300000,15\]\u00a0LF<", ">[7,12,300000,15]<", None),
+        ("an LF too many", r">(\[8,FE,[^\n]*,3\])<", ">\\1\u00a0LF<", None),
+        ("a record too few", r'<text [^>]*data-row="answer"[^>]*><tspan class="fixed">5A4D\u00a00008[^\n]*\n', "", None),
+        ("another label", r">5A4D\u00a00008\u00a0FE\u00a0", ">5A4D\u00a00008\u00a012\u00a0", None),
+        ("another trace", r"\u00a0\[03E5<", "\u00a0[03E6<", None),
+        ("good for refused", r">import\u00a0refused\u00a015\u00a01<", ">import\u00a0ok<", None),
+        ("an answer of another", r">export\u00a0ok<", ">import\u00a0ok<", None),
     ],
 }
 

@@ -7,7 +7,8 @@
 
 Comments of the script stand where they stand there. Units are counted through the whole script, and equal ones that follow each other
 have one sentence. Causes have the names of a tester beside ours, a refusal says what to do, and of a refused character which byte it is; the
-check of a catalogue says how many pairs of traces it compared; a line that was not understood says why.
+check of a catalogue says how many pairs of traces it compared; what is in hex for import and export is shown as text, and of a refused
+text the line that is named; a line that was not understood says why.
 What is said is what the printed lines and the script show; where they leave a cause open it is left open here.
 
     --brief      few short lines for a projector: large events only, no comments but the title
@@ -41,6 +42,7 @@ NDF = {0b0110: "normal", 0b1110: "normal", 0b0010: "normal", 0b0100: "normal", 0
 I_BITS, D_BITS = 0x2AA, 0x155
 NO_ACTION = ["dRDI"]  # defects from which neither AIS nor RDI follows
 SIGNS = {0x00: "NUL", 0x09: "TAB", 0x0A: "LF", 0x0D: "CR", 0x1B: "ESC", 0x7F: "DEL"}  # what cannot be seen, and has a name
+LONGEST_LINE = 100  # signs of a text's line that are shown
 LABELS = {0x00: "unequipped", 0x01: "equipped, non-specific", 0x02: "TUG structure", 0x12: "140 Mbit/s", 0x13: "ATM", 0xFE: "test signal", 0xFF: "alarm"}
 
 
@@ -153,11 +155,18 @@ def byte_text(trace, place):
 
 
 def where_text(said):
-    """What a refusal names behind its number: ` in record 4 at character 2`."""
+    """What a refusal names behind its number: ` in record 4 at character 2`; of a text ` in line 4`."""
     text = "".join(f" {place}" for place in said["places"] or [])
-    for name, words in (("record", " in record"), ("character", " at character"), ("first", ", as in record")):
+    first = "line" if "line" in said else "record"
+    for name, words in (("line", " in line"), ("record", " in record"), ("character", " at character"), ("first", f", as in {first}")):
         text += f"{words} {said[name]}" if name in said else ""
     return text
+
+
+def line_text(line, most=LONGEST_LINE):
+    """A line of a text as it stands, with all its blanks; what is no character as <00>, and no more than so many signs."""
+    text = trace_text(line)[1:-1]
+    return text if len(text) <= most else text[: most - 3] + "..."
 
 
 def pairs_text(pairs, brief=False):
@@ -466,6 +475,37 @@ class Teller:
             return f"circuit {circuit}, trace {trace_text(record[5:20])}"
         detail = self.settings_detail(said, {"label": record[4], "trace": record[5:20]}, "its")
         return f"circuit {circuit}, {detail}" if detail else f"circuit {circuit}"
+
+    def text_detail(self, said, data):
+        """The line of a text that a refusal names, as it stands, and what in it is refused, where that is what it says."""
+        number, place, lines = said["number"], said["line"], script.text_lines(data)
+        if number == 18:
+            return f"it has {len(lines)} lines"
+        if not 1 <= place <= len(lines):
+            return None
+        line, ended = lines[place - 1]
+        most = 40 if self.brief else LONGEST_LINE
+        text = f"line {place} is {line_text(line, most)}" if line else f"line {place} is empty"
+        try:
+            fields, why = script.text_line(line, ended), None
+        except script.Wrong as wrong:
+            fields, why = None, str(wrong)
+        if number == 15:
+            return f"{text}: {why}" if why and line else text
+        if fields is None or fields["trace"] is None:
+            return text
+        if number == 17 and len(fields["trace"]) > 15:
+            bytes_of = "" if line.isascii() or self.brief else "; each byte counts, and a sign above 7E may have two or more"
+            why = f"its trace has {len(fields['trace'])} characters{bytes_of}"
+        elif number == 13 and 1 <= said["first"] < place and not self.brief:
+            return f"{text}; line {said['first']} is {line_text(lines[said['first'] - 1][0], most)}"
+        elif number in (4, 5, 20):
+            why = self.settings_detail(said, {**fields, "trace": fields["trace"].ljust(15)}, "its", shown=False)
+        elif number == 11:
+            why = f"the number is {fields['circuit']}"
+        elif number == 12:
+            why = f"the flags are {fields['flags']}"
+        return f"{text}: {why}" if why else text
 
     # -- settings
 
@@ -787,6 +827,27 @@ class Teller:
         if not self.brief:
             for record in records:
                 self.item("part", f"circuit {record['circuit']}: {circuit_text(record)}")
+
+    def do_import(self, step):
+        if step.answer.kind == "refused":
+            self.refuse("import", step.answer, self.text_detail(step.answer, step.given["bytes"]))
+            return
+        lines, data = script.text_lines(step.given["bytes"]), step.answer["bytes"]
+        self.say(f"import: {counted(len(lines), 'line')} make{'s' if len(lines) < 2 else ''} a good catalogue of {counted(len(lines), 'circuit')}"
+                 + ("" if lines else ", as an empty file is") + (":" if lines and not self.brief else ""))
+        for place, (line, _) in enumerate(() if self.brief else lines):
+            record = data[place * RECORD : (place + 1) * RECORD]
+            fields = {"label": record[4], "trace": record[5:20], "flags": record[20]}
+            self.item("part", f"line {place + 1} is {line_text(line)}: circuit {int.from_bytes(record[2:4], 'big')}, {circuit_text(fields)}")
+
+    def do_export(self, step):
+        if step.answer.kind == "refused":
+            self.refuse("export", step.answer, self.catalogue_detail(step.answer, step.given["bytes"]))
+            return
+        lines = script.text_lines(step.answer["bytes"])
+        self.say(f"export: {counted(len(lines), 'circuit')}, a text of {counted(len(lines), 'line')}" + (":" if lines and not self.brief else ""))
+        for place, (line, _) in enumerate(() if self.brief else lines, 1):
+            self.item("part", f"line {place} is {line_text(line)}")
 
     def do_parity(self, step):
         self.say(f"parity: {step.answer['byte']:02X}, of {bytes_text(len(step.given['bytes']))}")

@@ -20,6 +20,7 @@ import re
 
 LONGEST = 100_000  # bytes of a line, all that stands before its LF
 UNIT = 2358
+LONGEST_TEXT_LINE = 80  # bytes of a line of a text that is imported, its LF not counted
 BOM = b"\xef\xbb\xbf"
 
 
@@ -172,6 +173,8 @@ COMMANDS = {
     "cat": [BYTES],
     "lookup": [("circuit", "N", number(0, 999_999_999)), BYTES],
     "list": [BYTES],
+    "import": [BYTES],
+    "export": [BYTES],
     "parity": [BYTES],
     "check": [BYTES],
     "read": [BYTES],
@@ -282,6 +285,65 @@ def settings_refused(name, given):
 
 
 # ---------------------------------------------------------------------------
+# A text that is imported
+# ---------------------------------------------------------------------------
+
+
+def text_lines(data):
+    """The lines of a text, each with whether an LF ends it: what stands behind the last LF is a line too."""
+    *lines, last = data.split(b"\n")
+    return [(line, True) for line in lines] + ([(last, False)] if last else [])
+
+
+def text_field(bytes_of, what):
+    """What stands before the next comma, and what behind it."""
+    field, comma, rest = bytes_of.partition(b",")
+    if not comma:
+        raise Wrong(f"no comma stands behind the {what}")
+    return field, rest
+
+
+def text_trace(bytes_of):
+    """The trace that opens here, doubled quotes made one, or None where it opens without a quote; and what stands behind its comma."""
+    if not bytes_of.startswith(b'"'):
+        return None, text_field(bytes_of, "trace")[1]
+    found = re.match(rb'"((?:[^"]|"")*)"(?!")', bytes_of)
+    if not found:
+        raise Wrong("a double quote opens the trace, and none closes it")
+    rest = bytes_of[found.end() :]
+    if not rest.startswith(b","):
+        raise Wrong("no comma stands behind the trace's closing quote" + ("; a quote in a trace is written twice" if rest else ""))
+    return found[1].replace(b'""', b'"'), rest[1:]
+
+
+def text_line(line, ended=True):
+    """The four fields of a line by name, the trace None where it has no quotes. Wrong where the line is malformed or too long, with why, in words."""
+    if len(line) > LONGEST_TEXT_LINE:
+        raise Wrong(f"it has {len(line)} bytes, and a line has at most {LONGEST_TEXT_LINE}")
+    if not ended:
+        raise Wrong("no LF ends it")
+    if not line:
+        raise Wrong("nothing stands in it")
+    if line.endswith(b"\r"):
+        raise Wrong("a CR stands before its LF")
+    if line.startswith(BOM):
+        raise Wrong("it begins with the mark of UTF-8, EF BB BF")
+    if line.count(b";") > 2 and line.count(b",") < 3:
+        raise Wrong("semicolons stand between its fields, and commas must")
+    circuit, rest = text_field(line, "number")
+    label, rest = text_field(rest, "label")
+    for field, pattern, what, form_of in ((circuit, rb"[0-9]{1,4}", "number", "one to four digits"), (label, rb"[0-9A-Fa-f]{2}", "label", "two hex digits")):
+        if not re.fullmatch(pattern, field):
+            raise Wrong(f"its {what} is in quotes, and only the trace may be" if field.startswith(b'"') else
+                        f"its {what} is not {form_of}{' alone: a blank stands there' if b' ' in field else ''}")
+    name, flags = text_trace(rest)
+    if not re.fullmatch(rb"[0-9]{1,2}", flags):
+        raise Wrong("more than four fields stand in it" if b"," in flags else "its flags are in quotes, and only the trace may be" if flags.startswith(b'"') else
+                    f"its flags are not one or two digits{' alone: a blank stands there' if b' ' in flags else ''}")
+    return {"circuit": int(circuit), "label": int(label, 16), "trace": name, "flags": int(flags)}
+
+
+# ---------------------------------------------------------------------------
 # Printed lines
 # ---------------------------------------------------------------------------
 
@@ -365,14 +427,18 @@ def fields_of(text, needed):
 
 
 # What a refusal names behind its number: the character of a trace, from 1 to 15, or the first record with a trace that comes again. In a
-# catalogue the record that is refused stands before it, but where it is no record that is. Of a number that is not here `places` are kept.
-PLACES = {**dict.fromkeys([*range(1, 15), 20, 21], ()), 5: ("character",), 13: ("first",), 20: ("character",)}
+# catalogue the record that is refused stands before it, but where it is no record that is; in a text that is imported its line, always, and
+# there `first` is a line too. Of a number that is not here `places` are kept.
+PLACES = {**dict.fromkeys([*range(1, 19), 20, 21], ()), 5: ("character",), 13: ("first",), 20: ("character",)}
 NO_RECORD = (9, 14)
+OF_TEXT = (15, 16, 17, 18)  # what import alone refuses
+NEVER = {"import": (9, 10, 14), "export": (14, *OF_TEXT)}  # what a call does not refuse; all others: what is import's alone
+TEXT_LINES = 512  # lines of a text, at most; 18 names the next
 
 
 def refusal_of(found, call=None):
-    """Whose refusal, its number, and `record`, `character` and `first` where it names them; of the catalogue check `pairs` too. None where it
-    names too few or too many, or has pairs where it may have none."""
+    """Whose refusal, its number, and `record` or `line`, `character` and `first` where it names them; of the catalogue check `pairs` too. None where
+    it names too few or too many, has pairs where it may have none, or is no refusal of this call."""
     call, pairs = call or (found["call"] or "sink").strip(), found.groupdict().get("pairs")
     number, *places = [int(each) for each in found["numbers"].split(" ")]
     if (call == "cat") != (pairs is not None):
@@ -380,9 +446,12 @@ def refusal_of(found, call=None):
     counted = {} if pairs is None else {"pairs": int(pairs)}
     if number not in PLACES:
         return {"call": call, "number": number, "places": places, **counted}
-    names = ("record",) * (call in ("cat", "lookup", "list") and number not in NO_RECORD) + PLACES[number]
+    if number in NEVER.get(call, OF_TEXT):
+        return None
+    of_record = call in ("cat", "lookup", "list", "export") and number not in NO_RECORD
+    names = ("line",) * (call == "import") + ("record",) * of_record + PLACES[number]
     named = dict(zip(names, places))
-    if len(names) != len(places) or not 1 <= named.get("character", 1) <= 15:
+    if len(names) != len(places) or not 1 <= named.get("character", 1) <= 15 or number == 18 and named["line"] != TEXT_LINES + 1:
         return None
     return {"call": call, "number": number, **named, **counted}
 
@@ -392,7 +461,7 @@ FORMS = [
     ("?", r"\? (\d+)", lambda found: {"line": int(found[1])}),
     ("unit", r"unit (\w+=.*)", lambda found: fields_of(found[1], SOURCE)),
     ("ok", r"ok (st=.*)", lambda found: fields_of(found[1], SINK)),
-    ("refused", r"(?P<call>(?:container|unit|tx|rx|payload|cat|lookup) )?refused (?P<numbers>\d+(?: \d+)*)(?: pairs=(?P<pairs>\d+))?", refusal_of),
+    ("refused", r"(?P<call>(?:container|unit|tx|rx|payload|cat|lookup|import|export) )?refused (?P<numbers>\d+(?: \d+)*)(?: pairs=(?P<pairs>\d+))?", refusal_of),
     ("line", r"line ?((?:[0-9A-F]{2})*)", lambda found: {"bytes": bytes.fromhex(found[1])}),
     ("payload", r"payload fnv=([0-9A-F]{8})", lambda found: {"fnv": found[1]}),
     ("cat", r"cat ok (\d+) pairs=(\d+)", lambda found: {"records": int(found[1]), "pairs": int(found[2])}),
@@ -402,6 +471,8 @@ FORMS = [
     ("record", r"(\d+) ([0-9A-F]{2}) \[([ -~]{15})\] (\d+)",
      lambda found: {"circuit": int(found[1]), "label": int(found[2], 16), "trace": found[3].encode("ascii"), "flags": int(found[4])}),
     ("listing", r"(?P<call>)(?P<numbers>\d+(?: \d+)*)", lambda found: refusal_of(found, "list")),  # of a refused file
+    ("import", r"import ok(?: ((?:[0-9A-F]{42})+))?", lambda found: {"bytes": bytes.fromhex(found[1] or "")}),  # the catalogue
+    ("export", r"export ok(?: ((?:[0-9A-F]{2})+))?", lambda found: {"bytes": bytes.fromhex(found[1] or "")}),  # the text
     ("parity", r"parity ([0-9A-F]{2})", lambda found: {"byte": int(found[1], 16)}),
     ("check", r"check ([01])", lambda found: {"good": found[1] == "1"}),
     ("read", r"read (\d+)", lambda found: {"number": int(found[1])}),
@@ -419,6 +490,8 @@ CALLS = {
     "cat": {"cat", "cat refused"},
     "lookup": {"found", "lookup refused"},
     "list": {"heading", "listing"},
+    "import": {"import", "import refused"},
+    "export": {"export", "export refused"},
     "parity": {"parity"},
     "check": {"check"},
     "read": {"read"},
@@ -540,6 +613,10 @@ class Pairing:
                 said.append(take(CALLS[name], name))
                 if said[0].kind == "heading":
                     said += [take({"record"}, "a record of the listing") for _ in range(len(given["bytes"]) // 21)]
+                if said[0].kind in ("import", "export"):
+                    text, catalogue = (given["bytes"], said[0]["bytes"])[:: 1 if name == "import" else -1]
+                    if len(text_lines(text)) * 21 != len(catalogue):
+                        raise Fault(f"not a run of this script: to its line {line.number}, `{line.shown()}`, the answer has more circuits or fewer")
             elif name in ("tx", "rx") and settings_refused(name, given):
                 said.append(take({f"{name} refused"}, f"{name} refused"))
             fed = self.wire.copy() if name == "sink" else None

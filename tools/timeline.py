@@ -66,11 +66,19 @@ def trace_text(data):
     return f"[{data.decode('ascii')}]" if all(0x20 <= byte <= 0x7E for byte in data) else digits(data)
 
 
+def readable(data):
+    """Whether a text can be shown line by line."""
+    return all(len(line) <= script.LONGEST_TEXT_LINE and all(0x20 <= byte <= 0x7E for byte in line) for line, _ in script.text_lines(data))
+
+
 def bytes_lines(name, data):
-    """Bytes that something was asked about, in lines: digits, but for a trace. A catalogue has a line for each record."""
+    """Bytes that something was asked about, in lines: digits, but for a trace. A catalogue has a line for each record, a text for each of its own,
+    in brackets and with its LF."""
     if name == "check" and 1 < len(data) <= 16:
         return [f"{digits(data[:1])} {trace_text(data[1:])}"]
-    if name in ("cat", "lookup", "list") and len(data) % 21 == 0:
+    if name == "import" and readable(data):
+        lines = [f"[{line.decode('ascii')}]{' LF' if ended else ''}" for line, ended in script.text_lines(data)]
+    elif name in ("cat", "lookup", "list", "export") and len(data) % 21 == 0:
         records = [data[k : k + 21] for k in range(0, len(data), 21)]
         lines = [f"{digits(each[:2])} {digits(each[2:4])} {digits(each[4:5])} {trace_text(each[5:20])} {digits(each[20:])}" for each in records]
     else:
@@ -81,7 +89,7 @@ def bytes_lines(name, data):
 def character_of(said, trace):
     """`character 3 is 09`, where a refusal names a character of this trace; none where it names none."""
     place = said["character"] if said else None
-    return f"character {place} is {trace[place - 1]:02X}" if place and place <= len(trace) else None
+    return f"character {place} is {trace[place - 1]:02X}" if place and trace and place <= len(trace) else None
 
 
 def first_of(lines, all_of_it):
@@ -109,6 +117,16 @@ class Note:
         self.place, self.texts = place, [text]
 
 
+def trace_in(step):
+    """The trace of the record, or of the text's line, that the refusal of a character names; none where it names none."""
+    if step.answer["record"]:
+        return step.given["bytes"][21 * step.answer["record"] - 16 : 21 * step.answer["record"] - 1]
+    try:
+        return script.text_line(*script.text_lines(step.given["bytes"])[step.answer["line"] - 1])["trace"] if step.answer["character"] else b""
+    except (IndexError, TypeError, script.Wrong):  # what was printed is of another text
+        return b""
+
+
 class Question:
     """What was asked of the catalogue or of a function of the host's: after how many units, the comment above it, the words, the bytes, what was printed."""
 
@@ -118,11 +136,14 @@ class Question:
         self.lines = [as_printed(line) for line in bytes_lines(step.name, step.given["bytes"])]
         texts = [said.text for said in step.said]
         texts = texts[1:] if len(texts) > 1 else texts  # a listing's heading says nothing where there are lines below it
-        self.answers = [as_printed(line) for line in first_of(texts, f"{len(texts)} lines")]
+        texts = first_of(texts, f"{len(texts)} lines")
+        if step.answer.kind in ("import", "export"):  # a catalogue, a text
+            data = step.answer["bytes"]
+            texts = [f"{step.name} ok"] + (bytes_lines("cat" if step.name == "import" else "import", data) if data else [])
+        self.answers = [as_printed(line) for line in texts]
         self.refused = step.answer.kind in ("refused", "listing")
-        record = step.answer["record"] or 0
-        character = character_of(step.answer, step.given["bytes"][21 * record - 16 : 21 * record - 1]) if record else None
-        self.answers += [f"record {record}, {character}"] if character else []
+        character = character_of(step.answer, trace_in(step))
+        self.answers += [f"{'line' if step.name == 'import' else 'record'} {step.answer['line'] or step.answer['record']}, {character}"] if character else []
 
 
 class Run:
@@ -271,7 +292,7 @@ SETTINGS = {
     "fill": lambda given: f"held filled with {given['held']:02X}, done with {given['done']:02X}",
     "lens": lambda given: f"held of {given['held']} bytes, done of {given['done']}",
 }
-QUESTIONS = ("cat", "lookup", "list", "parity", "check", "read")
+QUESTIONS = ("cat", "lookup", "list", "import", "export", "parity", "check", "read")
 UNSEEN = ("show", "payload")  # nothing of them is in the picture, and the comment above is for the script's reader
 
 
