@@ -160,7 +160,7 @@ TRIALS = [
     Trial("crates/card/src/lib.rt", "fn card_settings_check(label: u8, trace: &[u8]) -> CardRefusal\n", "fn card_settings_check(label: u8, trace: &[u8]) -> CardRefusal\n    requires { ⌜ label ≡ 1 ⌝ }\n",
           [RULES, PROMISES], ["card::card_settings_check", "has a requires"]),
     # a library that rests on a program's part
-    Trial("crates.txt", "\ncard: parity", "\ncard: programs parity", [RULES, PROMISES], ["crates.txt: card rests on programs, a part of the program programs"]),
+    Trial("crates.txt", "\nparity: laws", "\nparity: programs laws", [RULES, PROMISES], ["crates.txt: parity rests on programs, a part of the program programs"]),
     Trial("crates.txt", "\ncard: parity", "\ncard: bench_say parity", [RULES, PROMISES], ["crates.txt: card rests on bench_say, a part of the program bench"]),
     # what must be believed: another table; a statement that comes to an Inner file, and such a file to which none comes
     Trial("docs/READING.md", "| Statement |", "| Statements |", [BELIEVE], ["docs/READING.md:", "not that of the repository", "from here on: Statement"]),
