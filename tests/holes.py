@@ -127,10 +127,10 @@ TRIALS = [
     ruled("[GLOSSARY.md](GLOSSARY.md)", "[GLOSSARY.md](GLOSSARY.md#peek)", "GLOSSARY.md#peek: no such heading or anchor"),
     ruled("| 0 | 6AAA | increment | 1 |", "| 0 | 6AAB | increment | 1 |", "the row should say P2, 0, 6AAA, increment, 1"),
     ruled("| <a id=\"r15-12\">15.12</a> | P12 | 5 | 1801 | new data | 1 |", "- <a id=\"r15-12\">15.12</a> P12", "11 rows of the pointer table, and 12 that are proved"),
-    Trial("crates/records/specs/Refusals.antt", "catalogueNumber NotListed = 14", "catalogueNumber NotListed = 15", [RULES],
-          ["docs/CARD.md:", "refusal 15 of the definitions has no rule 12.15"]),
-    ruled("| a circuit that is not in the catalogue | |", "| a circuit that is not in the catalogue | |\n| <a id=\"r12-16\">12.16</a> | a peek | |",
-          "rule 12.16 is about a refusal that no definition gives"),
+    Trial("crates/records/specs/Refusals.antt", "catalogueNumber NotListed = 14", "catalogueNumber NotListed = 22", [RULES],
+          ["docs/CARD.md:", "refusal 22 of the definitions has no rule 12.22"]),
+    ruled("| a circuit that is not in the catalogue | |", "| a circuit that is not in the catalogue | |\n| <a id=\"r12-19\">12.19</a> | a peek | |",
+          "rule 12.19 is about a refusal that no definition gives"),
     # a rule with no row; and what is wrong with rows: no number, a rule that is not there, another's anchor, another's section, the order, a number where none is
     ruled(None, "- <a id=\"r19-15\">19.15</a> More.\n", "rule 19.15 has no row in docs/RULES.md"),
     rowed("| [5.4](CARD.md#r5-4) a decrement", "| a decrement", "docs/RULES.md:", "a row begins with the number of its rule"),
@@ -160,7 +160,7 @@ TRIALS = [
     Trial("crates/card/src/lib.rt", "fn card_settings_check(label: u8, trace: &[u8]) -> CardRefusal\n", "fn card_settings_check(label: u8, trace: &[u8]) -> CardRefusal\n    requires { ⌜ label ≡ 1 ⌝ }\n",
           [RULES, PROMISES], ["card::card_settings_check", "has a requires"]),
     # a library that rests on a program's part
-    Trial("crates.txt", "\nparity: laws", "\nparity: programs laws", [RULES, PROMISES], ["crates.txt: parity rests on programs, a part of the program programs"]),
+    Trial("crates.txt", "\nprobe: copier", "\nprobe: programs copier", [RULES, PROMISES], ["crates.txt: probe rests on programs, a part of the program programs"]),
     Trial("crates.txt", "\ncard: parity", "\ncard: bench_say parity", [RULES, PROMISES], ["crates.txt: card rests on bench_say, a part of the program bench"]),
     # what must be believed: another table; a statement that comes to an Inner file, and such a file to which none comes
     Trial("docs/READING.md", "| Statement |", "| Statements |", [BELIEVE], ["docs/READING.md:", "not that of the repository", "from here on: Statement"]),
