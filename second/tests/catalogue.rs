@@ -2,15 +2,6 @@
 
 use super::*;
 
-fn record(circuit: u16, label: u8, trace: &[u8], flags: u8) -> Vec<u8> {
-    let mut bytes = vec![0x5A, 0x4D];
-    bytes.extend_from_slice(&circuit.to_be_bytes());
-    bytes.push(label);
-    bytes.extend_from_slice(&padded(trace));
-    bytes.push(flags);
-    bytes
-}
-
 /// Good records with circuit numbers from 1 and a trace each.
 fn good(count: usize) -> Vec<u8> {
     let mut bytes = Vec::new();

@@ -33,6 +33,16 @@ mod trace;
 mod unit;
 mod word;
 
+/// The bytes of one record.
+fn record(circuit: u16, label: u8, trace: &[u8], flags: u8) -> Vec<u8> {
+    let mut bytes = vec![0x5A, 0x4D];
+    bytes.extend_from_slice(&circuit.to_be_bytes());
+    bytes.push(label);
+    bytes.extend_from_slice(&padded(trace));
+    bytes.push(flags);
+    bytes
+}
+
 /// A refusal with the places that it names.
 fn refused(number: u8, places: &[usize]) -> Refusal {
     Refusal {

@@ -2,16 +2,6 @@
 
 use super::*;
 
-/// The bytes of one record.
-fn record(circuit: u16, label: u8, trace: &[u8], flags: u8) -> Vec<u8> {
-    let mut bytes = vec![0x5A, 0x4D];
-    bytes.extend_from_slice(&circuit.to_be_bytes());
-    bytes.push(label);
-    bytes.extend_from_slice(&padded(trace));
-    bytes.push(flags);
-    bytes
-}
-
 /// A refusal that names a line.
 fn at(number: u8, line: usize) -> Result<Vec<u8>, Refusal> {
     Err(refused(number, &[line]))
