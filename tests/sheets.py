@@ -686,6 +686,8 @@ def programs(imports, exports, lists):
     data = b"".join(record(*each) for each in records)
     streams(imports, lines, data)
     streams(exports, data, b"".join(line(circuit, label, name.ljust(15), flags) for circuit, label, name, flags in records))
+    shelf = [(ROOT / "examples" / name).read_bytes() for name in ("shelf.cat", "shelf.csv")]
+    equal((run(exports, shelf[0]).stdout, run(imports, shelf[1]).stdout), (shelf[1], shelf[0]), "examples/shelf.cat and shelf.csv are one shelf")
 
     def trace(text):
         return b'1,12,"' + text + b'",1\n'
