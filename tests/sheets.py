@@ -750,6 +750,10 @@ def programs(imports, exports, lists):
         (b'7,12,"' + b"A" * million + b'",15\n', "15 1"),
         (b"".join(good[:400]) + trace(b"A" * 90), "15 401"),
         (b"".join(good[:400]) + trace(b"A" * million), "15 401"),
+        # what is not held counts: lines behind the first 41,473 bytes, and a last one that no LF ends
+        (trace(b"A" * million) + b"".join(good), "18 513"),
+        (trace(b"A" * million) + b"".join(good[:511]), "15 1"),
+        (trace(b"A" * million) + b"".join(good[:511]) + b"x", "18 513"),
         (b"".join(good[:400]) + trace(b"A" * 90) + good[400], "15 401"),
     ):
         refused(imports, text, wanted)
