@@ -42,7 +42,7 @@ use Rattle.importing.proofs.Making.{records-length}
 
 -- ---- the catalogue, made apart
 
-put-start : (p z : List ℕ) → put 0 p z ≡ p ++ drop (length p) z
+pub put-start : (p z : List ℕ) → put 0 p z ≡ p ++ drop (length p) z
 unfolding put
 put-start p z = rw zero-add
 

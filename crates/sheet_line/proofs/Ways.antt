@@ -1,12 +1,12 @@
 -- What is wrong first with a line: one law for each way out of the tests. And what holds where nothing is wrong. Assumes nothing.
-use mathlib.Core.Path.{_≡_, refl, sym, _∙_}
-use mathlib.Core.Bool.{Bool, true, false, not, _&&_, false≢true, true≢false}
+use mathlib.Core.Path.{_≡_, sym, _∙_}
+use mathlib.Core.Bool.{Bool, true, false, not, _&&_, false≢true}
 use mathlib.Core.List.{List, [], _∷_, _++_}
 use Prim.Native.Nat.{ℕ, _<_, _≤_}
 use native.Mathlib.Omega.{arith}
 use lib.Dec.{leb, ltb}
 use lib.ListN.{length, drop}
-use borrow.Author.Tests.{lt-ltb, le-ltb, ltb-false, leb-true}
+use borrow.Author.Tests.{lt-ltb, le-ltb, ltb-false, leb-true, not-false}
 use Rattle.laws.proofs.Tests.{and-left, and-right}
 use Rattle.refusals.specs.Refusals.{due, no, given}
 use Rattle.refusals.proofs.Wrong.{due-none, due-false, Numbered, numbered-row, numbered-last}
@@ -19,10 +19,6 @@ use Rattle.sheet_line.specs.declared.LineFault.{LineFault}
 use Rattle.sheet_line.specs.declared.LineFault.the-variants.{Malformed, Unquoted, Long}
 use Rattle.sheet_line.specs.declared.LineAnswer.the-variants.{Passes, Wrong}
 use Rattle.sheet_line.proofs.Fields.{count-is}
-
-not-false : (b : Bool) → not b ≡ false → b ≡ true
-not-false true e = refl
-not-false false e = absurd (true≢false e)
 
 module _ (s : List ℕ) (ended w : Bool) (is-w : w ≡ wellFormed s) where
   pub wrong-malformed : not (ended && w) ≡ true → Wrong Malformed ≡ lineJudged (lineFaults ended s)

@@ -1,8 +1,7 @@
 -- What the promises of the two calls come to together: a good catalogue that one call writes as text the other reads back, into any buffer, byte for byte.
 use mathlib.Core.Path.{_≡_, refl, ap, _∙_}
-use mathlib.Core.List.{List, _++_}
+use mathlib.Core.List.{List}
 use Prim.Native.Nat.{ℕ}
-use native.Mathlib.Nat.{zero-add}
 use lib.ListN.{length, take, drop}
 use lib.Seq.{take-at}
 use Rattle.copier.specs.Put.{put}
@@ -13,14 +12,11 @@ use Rattle.exporting.specs.Export.{exportOf, exportAnswer, Exports}
 use Rattle.exporting.specs.declared.Exported.{Exported}
 use Rattle.exporting.specs.declared.Exported.the-variants.{Text}
 use Rattle.importing.specs.Import.{leftBy, Imports}
+use Rattle.importing.proofs.Answers.{put-start}
 use Rattle.importing.specs.declared.Imported.{Imported}
 use Rattle.importing.specs.declared.Imported.the-variants.{Good}
 use Rattle.sheet_theorems.proofs.Good.{Bytes}
 use Rattle.sheet_theorems.proofs.Text.{round-trip}
-
-put-start : (p z : List ℕ) → put 0 p z ≡ p ++ drop (length p) z
-unfolding put
-put-start p z = rw zero-add
 
 -- the text that export left in its buffer t, of the length that it answered
 module _ (s b t : List ℕ) (n : ℕ) (bytes : Bytes s) (good : checkOf oldKind s ≡ checked.Good n) (r : Exported) (d : Exports s b t r) where

@@ -1,13 +1,13 @@
 -- What a good catalogue says of each of its records. Assumes nothing.
 use mathlib.Core.Path.{_≡_, refl}
-use mathlib.Core.Bool.{Bool, true, false, not, true≢false}
+use mathlib.Core.Bool.{Bool, true, false, not}
 use mathlib.Core.List.{List, [], _∷_, _++_}
 use Prim.Native.Nat.{ℕ, _+_, _-_, _*_, _<_, _≤_}
 use native.Mathlib.Omega.{arith}
 use lib.Dec.{eqb, ltb}
 use lib.ListN.{length, getD, length-take, length-drop}
 use lib.Seq.{getD-take, getD-drop}
-use borrow.Author.Tests.{eqb-true, ltb-false}
+use borrow.Author.Tests.{eqb-true, ltb-false, not-false}
 use Rattle.laws.proofs.Tests.{and-left, and-right, or-false}
 use Rattle.refusals.specs.Refusals.{given}
 use Rattle.refusals.proofs.Wrong.{due-none, due-false}
@@ -42,10 +42,6 @@ good-faults s n e =
     rw (← (g .1)) (joined-none (given 9 Length (lengthRefused oldKind (length s))) (faultsFrom oldKind s 0 (records oldKind s)) h .1)
 
 -- ---- one record
-
-not-false : (b : Bool) → not b ≡ false → b ≡ true
-not-false true e = refl
-not-false false e = absurd (true≢false e)
 
 module _ (place : ℕ) (r : List ℕ) (e : recordFaults oldKind place r ≡ []) where
   parts : (marked oldKind r ≡ true) × ((circuitRefused (circuitIn r) ≡ false) × ((traceFaults (traceIn r) ≡ []) × (flagsRefused (flagsIn r) ≡ false)))
