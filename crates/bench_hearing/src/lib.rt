@@ -50,8 +50,13 @@ fn keep(container: &[u8], last: &mut [u8]) {
 fn say_container(container: &[u8], told: Told, last: &mut [u8]) {
     bench_say::text(b",");
     bench_say::fnv(container);
+    let violations = overhead::violations(told.violated);
     bench_say::text(b",v=");
-    bench_say::decimal(told.violations as u64);
+    bench_say::decimal(violations as u64);
+    if 0 < violations {
+        bench_say::text(b",p=");
+        bench_say::hex(told.violated);
+    }
     bench_say::text(b",fe=");
     bench_say::decimal(told.returned as u64);
     keep(container, last);

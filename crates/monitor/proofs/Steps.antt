@@ -8,7 +8,7 @@ use Rattle.overhead.specs.declared.Accepted.{Accepted}
 use Rattle.overhead.specs.declared.Defect.{Defect}
 use Rattle.overhead.specs.Accepted.{acceptedOf}
 use Rattle.overhead.specs.Labels.{plmOf}
-use Rattle.overhead.specs.Violations.{violationsOf, keptOf}
+use Rattle.overhead.specs.Violations.{violatedOf, keptOf}
 use Rattle.overhead.specs.Defects.{defectOf, remoteOf, returnedOf}
 use Rattle.trace_monitor.specs.declared.Trace.{Trace}
 use Rattle.trace_monitor.specs.Trace.{traceOf}
@@ -25,8 +25,8 @@ unfolding watchStep
 watched w c e label plm bit uneq rdi trace l p u b r t = rw (p, u, r, t, l, b) refl
 
 -- and what each part of a container's step told
-pub stepped : (m : Monitor) (c : Overhead) (e : Settings) (violations returned : ℕ) (w : Watch)
-    → violations ≡ violationsOf (m .parity) (c .b3) → w ≡ watchStep (m .watch) c e → returned ≡ returnedOf (c .g1)
-    → record { monitor = record { parity = record { known = true; value = c .parity }; watch = w }; violations = violations; returned = returned } ≡ seenOf m c e
+pub stepped : (m : Monitor) (c : Overhead) (e : Settings) (violated returned : ℕ) (w : Watch)
+    → violated ≡ violatedOf (m .parity) (c .b3) → w ≡ watchStep (m .watch) c e → returned ≡ returnedOf (c .g1)
+    → record { monitor = record { parity = record { known = true; value = c .parity }; watch = w }; violated = violated; returned = returned } ≡ seenOf m c e
 unfolding seenOf monitorStep keptOf
-stepped m c e violations returned w v h r = rw (v, h, r) refl
+stepped m c e violated returned w v h r = rw (v, h, r) refl

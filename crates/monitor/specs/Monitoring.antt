@@ -1,4 +1,4 @@
--- The monitor, of 01, "Defects, actions, causes": "per container, in order", violations, label and dUNEQ, dRDI, trace.
+-- The monitor, of 01, "Defects, actions, causes": "per container, in order", violations (their columns, 02, ask 5), label and dUNEQ, dRDI, trace.
 -- It keeps the last parity, which a restart forgets, and apart from it what is watched from container to container, which stays.
 use Prim.Native.Nat.{ℕ}
 use mathlib.Core.Bool.{Bool, false, _&&_}
@@ -6,7 +6,7 @@ use lib.Dec.{eqb, leb}
 use Rattle.settings.specs.declared.Settings.{Settings}
 use Rattle.overhead.specs.declared.Parity.{Parity}
 use Rattle.overhead.specs.declared.Defect.{Defect}
-use Rattle.overhead.specs.Violations.{violationsOf, keptOf}
+use Rattle.overhead.specs.Violations.{violatedOf, keptOf}
 use Rattle.overhead.specs.Accepted.{acceptedOf}
 use Rattle.overhead.specs.Labels.{plmOf}
 use Rattle.overhead.specs.Defects.{defectOf, remoteOf, returnedOf}
@@ -61,9 +61,9 @@ watchStep w c e =
 unfoldable pub monitorStep : Monitor → Overhead → Settings → Monitor
 monitorStep m c e = record { parity = keptOf (c .parity); watch = watchStep (m .watch) c e }
 
--- and what is told of the container: its violations by the parity before it, and the violations returned
+-- and what is told of the container: its violated columns by the parity before it, and the violations returned
 unfoldable pub seenOf : Monitor → Overhead → Settings → Seen
-seenOf m c e = record { monitor = monitorStep m c e; violations = violationsOf (m .parity) (c .b3); returned = returnedOf (c .g1) }
+seenOf m c e = record { monitor = monitorStep m c e; violated = violatedOf (m .parity) (c .b3); returned = returnedOf (c .g1) }
 
 -- ---- ranges
 

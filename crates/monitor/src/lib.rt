@@ -33,10 +33,10 @@ pub struct Monitor {
     pub watch: Watch,
 }
 
-// What a container gives: the monitor after it, its violations, and those that the far end returned.
+// What a container gives: the monitor after it, its violated columns, and the violations that the far end returned.
 pub struct Seen {
     pub monitor: Monitor,
-    pub violations: u8,
+    pub violated: u8,
     pub returned: u8,
 }
 
@@ -58,7 +58,7 @@ pub fn see(columns: usize, container: &[u8]) -> Overhead
     }
 }
 
-// No last parity: violations are 0 until there is one.
+// No last parity: no column is violated until there is one.
 fn no_parity() -> overhead::Parity
     ensures { λ r. ⌜ r ≡ noParity ⌝ }
 {
@@ -144,7 +144,7 @@ pub fn step(m: Monitor, c: Overhead, e: Settings) -> Seen
 {
     let last = m.parity;
     let before = m.watch;
-    let violations = overhead::violations(last, c.b3);
+    let violated = overhead::violated(last, c.b3);
     let parity = overhead::Parity {
         known: true,
         value: c.parity,
@@ -155,7 +155,7 @@ pub fn step(m: Monitor, c: Overhead, e: Settings) -> Seen
     };
     Seen {
         monitor,
-        violations,
+        violated,
         returned: overhead::returned(c.g1),
     }
 }

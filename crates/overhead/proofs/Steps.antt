@@ -3,7 +3,6 @@ use mathlib.Core.Path.{_≡_, refl}
 use mathlib.Core.Bool.{Bool, true, false, _&&_, _||_}
 use Prim.Native.Nat.{ℕ, _<_, _≤_}
 use lib.Bits.{bitXor}
-use lib.Count.{ones}
 use lib.Dec.{eqb, ltb, leb}
 use borrow.Author.Tests.{le-leb, lt-leb}
 use Rattle.counts.specs.Counts.{more, runOn}
@@ -12,7 +11,7 @@ use Rattle.overhead.specs.declared.Defect.{Defect}
 use Rattle.overhead.specs.declared.Parity.{Parity}
 use Rattle.overhead.specs.Accepted.{acceptedOf}
 use Rattle.overhead.specs.Defects.{defectOf}
-use Rattle.overhead.specs.Violations.{violationsOf}
+use Rattle.overhead.specs.Violations.{violatedOf}
 
 -- ---- a defect, with it and without
 
@@ -36,13 +35,13 @@ module _ (a : Accepted) (value run : ℕ) (run-is : run ≡ runOn (eqb value (a 
   unfolding acceptedOf
   accepts-not-yet h = rw (← run-is, lt-leb 5 run h) refl
 
--- ---- violations
+-- ---- columns
 
 module _ (p : Parity) (b3 : ℕ) where
-  pub violated : (n : ℕ) → p .known ≡ true → n ≡ ones (bitXor b3 (p .value)) → n ≡ violationsOf p b3
-  unfolding violationsOf
-  violated n h e = rw h e
+  pub compared : p .known ≡ true → bitXor b3 (p .value) ≡ violatedOf p b3
+  unfolding violatedOf
+  compared h = rw h refl
 
-  pub none-known : p .known ≡ false → 0 ≡ violationsOf p b3
-  unfolding violationsOf
+  pub none-known : p .known ≡ false → 0x00 ≡ violatedOf p b3
+  unfolding violatedOf
   none-known h = rw h refl

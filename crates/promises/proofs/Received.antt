@@ -58,6 +58,8 @@ use Rattle.pointer.proofs.in_range.Kinds as pointer-in-range
 use Rattle.pointer.proofs.in_range.Reads as pointer-in-range-promise
 use Rattle.cut.proofs.cut_unit.Kinds as cut-unit
 use Rattle.cut.proofs.cut_unit.Reads as cut-unit-promise
+use Rattle.overhead.proofs.violated.Kinds as overhead-violated
+use Rattle.overhead.proofs.violated.Reads as overhead-violated-promise
 use Rattle.overhead.proofs.violations.Kinds as overhead-violations
 use Rattle.overhead.proofs.violations.Reads as overhead-violations-promise
 use Rattle.overhead.proofs.label_fits.Kinds as overhead-label-fits
@@ -175,6 +177,9 @@ pub cut-unit-determined : Determines {O = UnitCut} 3 cut-unit.ps cut-unit.r cut-
 cut-unit-determined κs a x y s t p q = unit-cut-same (p .cut-is ∙ sym (q .cut-is)) (p .held-is ∙ sym (q .held-is)) (p .done-is ∙ sym (q .done-is))
 
 -- ---- overhead
+
+pub overhead-violated-determined : Determines {O = ℕ} 0 overhead-violated.ps overhead-violated.r overhead-violated-promise.Post (λ κs r e. r)
+overhead-violated-determined κs a x y s t p q = p ∙ sym q
 
 pub overhead-violations-determined : Determines {O = ℕ} 0 overhead-violations.ps overhead-violations.r overhead-violations-promise.Post (λ κs r e. r)
 overhead-violations-determined κs a x y s t p q = p ∙ sym q

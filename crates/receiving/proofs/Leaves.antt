@@ -81,8 +81,8 @@ pub ended-told : (c : Cut) (first second : Seen) (a b p : ℕ) → a ≡ cond (c
       completed = c .ends;
       inside = c .inside;
       place = p;
-      first = record { violations = first .violations; returned = first .returned };
-      second = record { violations = second .violations; returned = second .returned };
+      first = record { violated = first .violated; returned = first .returned };
+      second = record { violated = second .violated; returned = second .returned };
     }
     ≡ endedIn c first second
 unfolding endedIn endedCount

@@ -41,7 +41,7 @@ cutIn s t offset count = cutOf s (beginIn s t offset count .kept) (beginIn s t o
 
 -- where no container ended
 abbrev pub notSeen : Monitor → Seen
-notSeen m = record { monitor = m; violations = 0; returned = 0 }
+notSeen m = record { monitor = m; violated = 0x00; returned = 0 }
 
 -- one container, watched where it ended
 unfoldable pub watched : Bool → ℕ → List ℕ → Settings → Monitor → Seen
@@ -55,8 +55,8 @@ endedIn c first second =
       completed = c .ends;
       inside = c .inside;
       place = cond (c .inside) (c .next) 0;
-      first = record { violations = first .violations; returned = first .returned };
-      second = record { violations = second .violations; returned = second .returned };
+      first = record { violated = first .violated; returned = first .returned };
+      second = record { violated = second .violated; returned = second .returned };
     }
 
 -- ---- what a unit leaves
@@ -79,8 +79,8 @@ silence =
             completed = false;
             inside = false;
             place = 0;
-            first = record { violations = 0; returned = 0 };
-            second = record { violations = 0; returned = 0 };
+            first = record { violated = 0x00; returned = 0 };
+            second = record { violated = 0x00; returned = 0 };
           };
     }
 

@@ -18,10 +18,10 @@ use settings::Settings;
 use shape::Adjustment;
 use shape::Shape;
 
-// What is told of a container: its violations, which are its REI, and those that the far end returned.
+// What is told of a container: the columns of parity that are violated, whose number is its REI (`overhead::violations`), and the violations that the far end returned.
 #[repr(C)]
 pub struct Told {
-    pub violations: u8,
+    pub violated: u8,
     pub returned: u8,
 }
 
@@ -140,7 +140,7 @@ fn unseen(m: Monitor) -> Seen
 {
     Seen {
         monitor: m,
-        violations: 0,
+        violated: 0x00,
         returned: 0,
     }
 }
@@ -156,11 +156,11 @@ pub fn silent() -> AfterUnit
     ensures { λ r. ⌜ r ≡ silence ⌝ }
 {
     let first = Told {
-        violations: 0,
+        violated: 0x00,
         returned: 0,
     };
     let second = Told {
-        violations: 0,
+        violated: 0x00,
         returned: 0,
     };
     let ended = Ended {
@@ -185,11 +185,11 @@ fn ended_in(c: Cut, earlier: Seen, later: Seen) -> Ended
     let completed = c.ends;
     let inside = c.inside;
     let first = Told {
-        violations: earlier.violations,
+        violated: earlier.violated,
         returned: earlier.returned,
     };
     let second = Told {
-        violations: later.violations,
+        violated: later.violated,
         returned: later.returned,
     };
     Ended {

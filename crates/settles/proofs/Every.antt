@@ -10,8 +10,8 @@ use Rattle.shape.specs.Shape.{endedBy}
 use Rattle.shape.specs.declared.Shape.{Shape}
 use Rattle.unit_source.specs.Source as unit-source
 use Rattle.unit_source_theorems.specs.Sending as stream
-use Rattle.settles_stream.specs.InOrder.{boxes, violationsTold}
-use Rattle.settles_stream.specs.Inner.{watchedAll, violationsAll}
+use Rattle.settles_stream.specs.InOrder.{boxes, violatedTold}
+use Rattle.settles_stream.specs.Inner.{watchedAll, violatedAll}
 use Rattle.settles_stream.proofs.Together.{boxes-append}
 use Rattle.unit_end.specs.Settled.{settledOf, totalOf}
 use Rattle.settles.specs.Demand.{Run, Path, pathAfter, pathAt, sentAt, fedAt, madeAt, receivedAt, handedAt, unsettled, handedFrom, endedFrom}
@@ -51,7 +51,7 @@ module _ (s : Shape) (r : Run) (u : Runs s r) where
       total-after s (u .fit) r (u .set) x (r .ask n) (along s r u n .ready) (late s r u n x (along s r u n))
       ∙ total-on settled (x .state .total) (r .state .total) (unsettled (receivedAt s r) n) (total-all n)
 
-  -- from the fourth unit on: what is handed back, what the monitor has watched, and the violations told
+  -- from the fourth unit on: what is handed back, what the monitor has watched, and the columns told
   module _ (n : ℕ) (w : 3 ≤ n) where
     abbrev x : Path
     x = pathAt s r n
@@ -77,10 +77,10 @@ module _ (s : Shape) (r : Run) (u : Runs s r) where
         monitor-goes s (u .fit) r (u .set) x (r .ask n) (h .ready) (late s r u n x h) (m .was) (m .taken-is) (m .now) (h .together w)
         ∙ ap (λ (k : ℕ). watchedAll (s .columns) (r .settings) (x .state .monitor) (boxes (r .box) (x .source .number) k)) (sym (ended-is n))
 
-    pub told-all : violationsTold (fedAt s r n .received .ended) ≡ violationsAll (s .columns) (r .settings) (x .state .monitor) cs
+    pub told-all : violatedTold (fedAt s r n .received .ended) ≡ violatedAll (s .columns) (r .settings) (x .state .monitor) cs
     told-all =
         told-goes s (u .fit) r (u .set) x (r .ask n) (h .ready) (late s r u n x h) (m .was) (m .taken-is) (m .now) (h .together w)
-        ∙ ap (λ (k : ℕ). violationsAll (s .columns) (r .settings) (x .state .monitor) (boxes (r .box) (x .source .number) k)) (sym (ended-is n))
+        ∙ ap (λ (k : ℕ). violatedAll (s .columns) (r .settings) (x .state .monitor) (boxes (r .box) (x .source .number) k)) (sym (ended-is n))
 
     pub settled-all : fedAt s r n .received .settled ≡ settledOf true (pathAt s r (suc n) .state .monitor) (r .settings)
     unfolding pathAt

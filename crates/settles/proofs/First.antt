@@ -56,7 +56,7 @@ module _ (noneBefore : ℕ) (s : Shape) (m : Making) (r : Run) (f : Fit s) (i : 
           total-is = h .total-is;
           back = h .back;
           in-order = h .in-order;
-          no-violations = h .no-violations;
+          no-column = h .no-column;
           settled = h .settled;
           no-defect = h .no-defect;
         }

@@ -7,6 +7,7 @@ pub mod Watched
 pub mod Signal
 pub mod Every
 pub mod Settled
+pub mod Counted
 pub mod First
 pub mod Host
 pub mod Opened

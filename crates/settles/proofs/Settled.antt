@@ -17,8 +17,8 @@ use Rattle.overhead.specs.Violations.{keptOf}
 use Rattle.monitor.specs.Seeing.{seenIn}
 use Rattle.settles_monitor.specs.Near.{Setting, Whole, enough}
 use Rattle.settles_monitor.proofs.Settles.{Near, near-none, near-settled, near-free, setting}
-use Rattle.settles_stream.specs.InOrder.{boxes, violationsTold}
-use Rattle.settles_stream.specs.Inner.{violationsAll}
+use Rattle.settles_stream.specs.InOrder.{boxes, violatedTold}
+use Rattle.settles_stream.specs.Inner.{violatedAll}
 use Rattle.unit_end.specs.Settled.{noneStands}
 use Rattle.sink.specs.Sink as sink
 use Rattle.sink_theorems.proofs.Ranges.{reached-in-range}
@@ -124,7 +124,7 @@ module _ (s : Shape) (r : Run) (u : Runs s r) (label place end : ℕ) (g : Setti
       was : numberAt s r u n ≤ end
       was = omega (arith, o, number-on s r u n)
 
-      pub clean-then : violationsTold (fedAt s r n .received .ended) ≡ replicate (sentAt s r n .made .ended) 0
+      pub clean-then : violatedTold (fedAt s r n .received .ended) ≡ replicate (sentAt s r n .made .ended) 0x00
       clean-then =
           told-all s r u n (omega arith)
           ∙ go (numberAt s r u n) refl (watching-at n (omega arith) was .number-is) (watching-at n (omega arith) was .parity)
@@ -134,7 +134,7 @@ module _ (s : Shape) (r : Run) (u : Runs s r) (label place end : ℕ) (g : Setti
 
           go : (i : ℕ) → i ≡ numberAt s r u n → since + watching-at n (omega arith) was .many ≡ i
               → ((j : ℕ) → suc j ≡ i → 0 < watching-at n (omega arith) was .many → pathAt s r n .state .monitor .parity ≡ keptOf (seenIn (s .columns) (r .box j) .parity))
-              → violationsAll (s .columns) (r .settings) (pathAt s r n .state .monitor) (boxes (r .box) i (sentAt s r n .made .ended)) ≡ replicate (sentAt s r n .made .ended) 0
+              → violatedAll (s .columns) (r .settings) (pathAt s r n .state .monitor) (boxes (r .box) i (sentAt s r n .made .ended)) ≡ replicate (sentAt s r n .made .ended) 0x00
           go zero i-is e h = absurd (omega (arith, some))
           go (suc i) i-is e h =
               none-violated-all (s .columns) label (r .settings) (r .box) i (sentAt s r n .made .ended) (pathAt s r n .state .monitor) (λ j l q. chain j (omega (arith, since-some, some)) (omega (arith, o, number-on s r u n, i-is))) (h i refl some)
@@ -206,7 +206,7 @@ settles noneBefore s m r some f steps i box-is g =
       total-is = total-all s r u;
       back = λ n w. handed-all s r u n (omega arith);
       in-order = λ n units w. in-order-all s r u units n (omega arith);
-      no-violations = λ n w. clean-then s r u (g .label) place (numberAt s r u (suc n)) e (λ j l _. like j l) (λ j l _. chain j l) steps n w (omega arith);
+      no-column = λ n w. clean-then s r u (g .label) place (numberAt s r u (suc n)) e (λ j l _. like j l) (λ j l _. chain j l) steps n w (omega arith);
       settled = settled;
       no-defect = λ n w. free-then s r u (g .label) place (numberAt s r u (suc n)) e (λ j l _. like j l) (λ j l _. chain j l) steps n w (omega arith);
     }

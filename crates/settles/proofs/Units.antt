@@ -28,8 +28,8 @@ use Rattle.monitor.specs.declared.Monitor.{Monitor}
 use Rattle.settles_pointer.specs.Meant.{meant}
 use Rattle.settles_pointer.proofs.Locks.{meant-goes, meant-adjusts}
 use Rattle.settles_monitor.specs.Near.{Whole}
-use Rattle.settles_stream.specs.InOrder.{boxes, violationsTold}
-use Rattle.settles_stream.specs.Inner.{watchedAll, violationsAll}
+use Rattle.settles_stream.specs.InOrder.{boxes, violatedTold}
+use Rattle.settles_stream.specs.Inner.{watchedAll, violatedAll}
 use Rattle.settles_stream.proofs.Seen.{seen-all, told-all}
 use Rattle.settles_stream.proofs.Together.{goes-ended, goes-held, restart-held}
 use Rattle.receiving.specs.Receiving.{UnitOutcome, monitorIn, fromIn, beginIn, cutIn, receivedNormal}
@@ -164,11 +164,11 @@ module _ (s : Shape) (f : Fit s) (r : Run) (set : Settable r) (x : Path) (a : Ad
     monitor-after =
         monitor-left ∙ ap (λ (y : UnitOutcome). y .after .monitor) left-is ∙ seen-all s k (completedOf s k unit (x .held)) (insidePart s k unit) (monitorIn (t .taken) (x .state .monitor)) (r .settings)
 
-    pub told-after : violationsTold (fed s r x a .received .ended) ≡ violationsAll (s .columns) (r .settings) (monitorIn (t .taken) (x .state .monitor)) (endedOf s k unit (x .held))
+    pub told-after : violatedTold (fed s r x a .received .ended) ≡ violatedAll (s .columns) (r .settings) (monitorIn (t .taken) (x .state .monitor)) (endedOf s k unit (x .held))
     unfolding told receivedNormal endedOf
     told-after =
-        ap (λ (o : sink.ReceivedOutcome). violationsTold (o .received .ended)) fed-is
-        ∙ ap (λ (y : UnitOutcome). violationsTold (y .after .ended)) left-is
+        ap (λ (o : sink.ReceivedOutcome). violatedTold (o .received .ended)) fed-is
+        ∙ ap (λ (y : UnitOutcome). violatedTold (y .after .ended)) left-is
         ∙ told-all s k (completedOf s k unit (x .held)) (insidePart s k unit) (monitorIn (t .taken) (x .state .monitor)) (r .settings)
 
     pub handed-after : reach.handed s (feeding s r x a) (fed s r x a) ≡ endedOf s k unit (x .held)
@@ -213,8 +213,8 @@ module _ (s : Shape) (f : Fit s) (r : Run) (set : Settable r) (x : Path) (a : Ad
       pub monitor-goes : pathAfter s r x a .state .monitor ≡ watchedAll (s .columns) (r .settings) (x .state .monitor) (boxes (r .box) i (endedBy a v))
       monitor-goes = monitor-after normal ∙ ap₂ (λ (m : Monitor) (cs : List (List ℕ)). watchedAll (s .columns) (r .settings) m cs) met-same ended-is
 
-      pub told-goes : violationsTold (fed s r x a .received .ended) ≡ violationsAll (s .columns) (r .settings) (x .state .monitor) (boxes (r .box) i (endedBy a v))
-      told-goes = told-after normal ∙ ap₂ (λ (m : Monitor) (cs : List (List ℕ)). violationsAll (s .columns) (r .settings) m cs) met-same ended-is
+      pub told-goes : violatedTold (fed s r x a .received .ended) ≡ violatedAll (s .columns) (r .settings) (x .state .monitor) (boxes (r .box) i (endedBy a v))
+      told-goes = told-after normal ∙ ap₂ (λ (m : Monitor) (cs : List (List ℕ)). violatedAll (s .columns) (r .settings) m cs) met-same ended-is
 
 -- ---- a unit with no adjustment, taken by rule 3 at the source's offset
 

@@ -1,4 +1,4 @@
--- Containers of one signal, watched one after the other: how near the monitor is, and that none has violations. Nothing is asked of those before the first that is watched.
+-- Containers of one signal, watched one after the other: how near the monitor is, and that none has a violated column. Nothing is asked of those before the first that is watched.
 -- Of the others each is asked for by itself, and only those that are watched, so that a row in which one differs is told of up to it. Assumes nothing.
 use mathlib.Core.Path.{_≡_, refl, ap, ap₂, _∙_}
 use mathlib.Core.List.{List, _∷_}
@@ -8,7 +8,7 @@ use native.Mathlib.Numerals.{add-one}
 use native.Mathlib.Omega.{arith}
 use lib.ListN.{replicate}
 use Rattle.overhead.specs.declared.Parity.{Parity}
-use Rattle.overhead.specs.Violations.{violationsOf, keptOf}
+use Rattle.overhead.specs.Violations.{violatedOf, keptOf}
 use Rattle.monitor.specs.Seeing.{seenIn}
 use Rattle.monitor.specs.Monitoring.{monitorStep}
 use Rattle.monitor.specs.declared.Monitor.{Monitor}
@@ -16,7 +16,7 @@ use Rattle.settings.specs.declared.Settings.{Settings}
 use Rattle.settles_monitor.specs.Near.{Setting, Like}
 use Rattle.settles_monitor.proofs.Settles.{Near, near-step, parity-kept, none-violated}
 use Rattle.settles_stream.specs.InOrder.{boxes}
-use Rattle.settles_stream.specs.Inner.{watchedAll, violationsAll}
+use Rattle.settles_stream.specs.Inner.{watchedAll, violatedAll}
 
 module _ (columns label : ℕ) (e : Settings) (box : ℕ → List ℕ) where
   -- container j carries this label and what is expected, and the byte of the message that is then due: the one at `place` in container 0
@@ -47,14 +47,14 @@ module _ (columns label : ℕ) (e : Settings) (box : ℕ → List ℕ) where
       let from : i + suc n ≡ i + 1 + n = omega arith in
       rw from (parity-all (i + 1) n (monitorStep m (seenIn columns (box i)) e))
 
-  -- after one of them, the others have no violations
+  -- after one of them, the others have no violated column
   pub none-violated-all : (i n : ℕ) (m : Monitor) → ((j : ℕ) → i ≤ j → j < i + n → Chained j) → m .parity ≡ keptOf (seenIn columns (box i) .parity)
-      → violationsAll columns e m (boxes box (suc i) n) ≡ replicate n 0
-  unfolding violationsAll boxes
+      → violatedAll columns e m (boxes box (suc i) n) ≡ replicate n 0x00
+  unfolding violatedAll boxes
   none-violated-all i zero m chain h = refl
   none-violated-all i (suc n) m chain h =
       let c = seenIn columns (box (suc i)) in
-      let now = ap (λ (p : Parity). violationsOf p (c .b3)) h ∙ none-violated (seenIn columns (box i) .parity) (c .b3) (chain i (omega arith) (omega arith)) in
+      let now = ap (λ (p : Parity). violatedOf p (c .b3)) h ∙ none-violated (seenIn columns (box i) .parity) (c .b3) (chain i (omega arith) (omega arith)) in
       rw (add-one (suc i))
       (ap₂ (λ (v : ℕ) (vs : List ℕ). v ∷ vs) now (none-violated-all (suc i) n (monitorStep m c e) (λ j l o. chain j (omega arith) (omega arith)) (parity-kept m c e)))
 

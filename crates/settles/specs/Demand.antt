@@ -27,7 +27,7 @@ use Rattle.unit_source.specs.Source as unit-source
 use Rattle.unit_source.specs.declared.State as unit-source-state
 use Rattle.unit_source.specs.declared.Made.{Made}
 use Rattle.unit_source_theorems.specs.Sending as stream
-use Rattle.settles_stream.specs.InOrder.{boxes, violationsTold}
+use Rattle.settles_stream.specs.InOrder.{boxes, violatedTold}
 use Rattle.settings.specs.declared.Settings.{Settings}
 use Rattle.sink.specs.Sink as sink
 use Rattle.sink.specs.declared.State as sink-state
@@ -221,8 +221,8 @@ pub record Settles (within : ℕ) (s : Shape) (r : Run) (g : Log) : Type 0 where
   pub back : (n : ℕ) → within ≤ n → handedAt s r (g .path) (g .received) n ≡ boxes (r .box) (g .path n .source .number) (g .made n .ended)
   -- "in order, none lost or doubled": and so in any units one after the other
   pub in-order : (n units : ℕ) → within ≤ n → handedFrom s r (g .path) (g .received) n units ≡ boxes (r .box) (g .path n .source .number) (endedFrom (g .made) n units)
-  -- "with zero parity violations": one 0 for each
-  pub no-violations : (n : ℕ) → within ≤ n → violationsTold (g .received n .ended) ≡ replicate (g .made n .ended) 0
+  -- "with zero parity violations": columns 00 for each
+  pub no-column : (n : ℕ) → within ≤ n → violatedTold (g .received n .ended) ≡ replicate (g .made n .ended) 0x00
   -- "and no defect", none of 01's four, at the end of the unit, which is settled
   pub settled : (n : ℕ) → within ≤ n → g .received n .settled ≡ true
   pub no-defect : (n : ℕ) → within ≤ n → noneStands (g .received n .defects) ≡ true

@@ -14,7 +14,7 @@ use Rattle.settings.specs.Settings.{labelRefused, traceFaults}
 use Rattle.settings.proofs.Passes.{Character, by-characters}
 use Rattle.trace_message.specs.Message.{topBitsClear}
 use Rattle.trace_message.proofs.Alike.{same-alike}
-use Rattle.overhead.specs.Violations.{violationsOf, keptOf}
+use Rattle.overhead.specs.Violations.{violatedOf, keptOf}
 use Rattle.overhead.specs.Labels.{fits}
 use Rattle.trace_monitor.specs.Trace.{blankTrace}
 use Rattle.monitor.specs.declared.Overhead.{Overhead}
@@ -163,7 +163,7 @@ pub parity-kept : (m : Monitor) (c : Overhead) (e : Settings) → monitorStep m 
 unfolding monitorStep
 parity-kept m c e = refl
 
--- one whose B3 is the parity kept has no violations
-pub none-violated : (p b : ℕ) → b ≡ p → violationsOf (keptOf p) b ≡ 0
-unfolding violationsOf keptOf ones
+-- one whose B3 is the parity kept has no column violated
+pub none-violated : (p b : ℕ) → b ≡ p → violatedOf (keptOf p) b ≡ 0x00
+unfolding violatedOf keptOf
 none-violated p b h = rw (h, xor-self p)

@@ -1,4 +1,4 @@
--- The monitor after a unit, and the violations told in it, are those of the containers that ended, one after the other. Assumes nothing.
+-- The monitor after a unit, and the columns told in it, are those of the containers that ended, one after the other. Assumes nothing.
 use mathlib.Core.Path.{_≡_, refl}
 use mathlib.Core.Bool.{Bool, true, false, cond}
 use mathlib.Core.List.{List, _++_}
@@ -10,8 +10,8 @@ use Rattle.monitor.specs.Monitoring.{seenOf}
 use Rattle.monitor.specs.declared.Monitor.{Monitor}
 use Rattle.settings.specs.declared.Settings.{Settings}
 use Rattle.receiving.specs.Receiving.{watched, endedIn, bothSeen}
-use Rattle.settles_stream.specs.InOrder.{violationsTold}
-use Rattle.settles_stream.specs.Inner.{watchedAll, violationsAll}
+use Rattle.settles_stream.specs.InOrder.{violatedTold}
+use Rattle.settles_stream.specs.Inner.{watchedAll, violatedAll}
 
 -- whether or not each of the two ended
 module _ (columns : ℕ) (completed inside : List ℕ) (m : Monitor) (e : Settings) where
@@ -26,17 +26,17 @@ module _ (columns : ℕ) (completed inside : List ℕ) (m : Monitor) (e : Settin
   told-by : (a b : Bool) (number place : ℕ)
       → let first = watched a columns completed e m in
       let second = watched b columns inside e (first .monitor) in
-      violationsTold
+      violatedTold
       (record {
         number = number;
         completed = a;
         inside = b;
         place = place;
-        first = record { violations = first .violations; returned = first .returned };
-        second = record { violations = second .violations; returned = second .returned };
+        first = record { violated = first .violated; returned = first .returned };
+        second = record { violated = second .violated; returned = second .returned };
       })
-      ≡ violationsAll columns e m (oneIf a completed ++ oneIf b inside)
-  unfolding watched seenOf violationsTold violationsAll
+      ≡ violatedAll columns e m (oneIf a completed ++ oneIf b inside)
+  unfolding watched seenOf violatedTold violatedAll
   told-by true true number place = refl
   told-by true false number place = refl
   told-by false true number place = refl
@@ -49,7 +49,7 @@ module _ (s : Shape) (c : Cut) (completed inside : List ℕ) (m : Monitor) (e : 
   seen-all = watched-by (s .columns) completed inside m e (c .ends) (c .inside)
 
   -- and what is told of each
-  pub told-all : violationsTold (bothSeen s c completed inside m e .ended)
-      ≡ violationsAll (s .columns) e m (oneIf (c .ends) completed ++ oneIf (c .inside) inside)
+  pub told-all : violatedTold (bothSeen s c completed inside m e .ended)
+      ≡ violatedAll (s .columns) e m (oneIf (c .ends) completed ++ oneIf (c .inside) inside)
   unfolding bothSeen endedIn
   told-all = told-by (s .columns) completed inside m e (c .ends) (c .inside) (endedCount c) (cond (c .inside) (c .next) 0)

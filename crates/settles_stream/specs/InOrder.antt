@@ -9,6 +9,6 @@ unfoldable pub boxes : (ℕ → List ℕ) → ℕ → ℕ → List (List ℕ)
 boxes box i zero = []
 boxes box i (suc n) = box i ∷ boxes box (i + 1) n
 
--- the violations that a unit's answer tells, of the container completed in the done buffer and of the one inside the unit
-unfoldable pub violationsTold : Ended → List ℕ
-violationsTold e = cond (e .completed) (e .first .violations ∷ []) [] ++ cond (e .inside) (e .second .violations ∷ []) []
+-- the violated columns that a unit's answer tells, of the container completed in the done buffer and of the one inside the unit
+unfoldable pub violatedTold : Ended → List ℕ
+violatedTold e = cond (e .completed) (e .first .violated ∷ []) [] ++ cond (e .inside) (e .second .violated ∷ []) []

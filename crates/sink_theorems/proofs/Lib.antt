@@ -6,3 +6,4 @@ pub mod Opened
 pub mod Pairs
 pub mod Handed
 pub mod Ignored
+pub mod Columns

@@ -21,7 +21,7 @@ ssfOf alarm lost = alarm || lost
 abbrev pub tsfOf : Terms → Bool → Defects → Bool
 tsfOf t ssf d = orAny ssf d (t .tsf)
 
--- "AIS = TSF or dPLM. RDI = TSF." REI is the violations, per container: the monitor tells them.
+-- "AIS = TSF or dPLM. RDI = TSF." REI is the violations, per container: the ones of the columns that the monitor tells.
 unfoldable pub actionsOf : Terms → Bool → Defects → Actions
 actionsOf t ssf d =
     let tsf = tsfOf t ssf d in

@@ -16,7 +16,7 @@ pub struct Defects {
     pub rdi: bool,
 }
 
-// Consequent actions, and the SSF that they follow from. REI is the violations of each container.
+// Consequent actions, and the SSF that they follow from. REI is how many violations each container has.
 #[repr(C)]
 pub struct Actions {
     pub ssf: bool,

@@ -4,8 +4,8 @@ use borrow.Author.Needs.{needs}
 use Rattle.monitor.proofs.step.Statement.{statement}
 use Rattle.monitor.proofs.step.Tie as tie
 
-violations-requires : tie.Need-violations-requires
-violations-requires c κs = search needs
+violated-requires : tie.Need-violated-requires
+violated-requires c κs = search needs
 
 watch-step-requires : tie.Need-watch-step-requires
 watch-step-requires c κs = search needs
@@ -17,4 +17,4 @@ returns : tie.Need-returns
 returns c = search stepped fits 20000
 
 pub step-spec : {M : Type 1} → statement M
-step-spec = tie.close (tie.spec violations-requires watch-step-requires returned-requires returns)
+step-spec = tie.close (tie.spec violated-requires watch-step-requires returned-requires returns)
