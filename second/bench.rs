@@ -431,13 +431,18 @@ impl Bench {
         coverage::fed(self.sink.pointer.state, &answer.defects, note);
         let ended = answer.ended.len();
         let _ = write!(text, "ok st={state} off={offset} held={} ended={ended}", self.sink.held);
-        for (count, Ended { place, violations, returned }) in answer.ended.iter().enumerate() {
+        for (count, one) in answer.ended.iter().enumerate() {
+            let Ended { place, columns, returned } = one;
             let container = place.container(AU4, &self.line, &self.done);
             let at = match place {
                 Place::Done => "D@0".to_string(),
                 Place::Unit(from) => format!("U@{from}"),
             };
-            let _ = write!(text, " c={at},{:08X},v={violations},fe={returned}", fnv(container));
+            let _ = write!(text, " c={at},{:08X},v={}", fnv(container), one.violations());
+            if *columns != 0x00 {
+                let _ = write!(text, ",p={columns:02X}");
+            }
+            let _ = write!(text, ",fe={returned}");
             if count + 1 == ended {
                 self.last = Some((container.to_vec(), *place));
             }

@@ -673,7 +673,7 @@ pub fn end(s: &Sink, expected: &Expected, answer: &Answer, note: Note) {
             (tim && !uneq, "action.TSF-by-dTIM-alone"),
             (tim && uneq, "action.TSF-by-both"),
             (plm && !tsf, "action.AIS-by-dPLM-alone"),
-            (answer.ended.iter().any(|one| one.violations > 0), "action.REI"),
+            (answer.ended.iter().any(|one| one.violations() > 0), "action.REI"),
             (!causes.contains(&true), "cause.none"),
             (c_ais, "cause.cAIS"),
             (c_lop, "cause.cLOP"),

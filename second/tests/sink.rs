@@ -64,7 +64,7 @@ impl Path {
             // Handed back as it was sent.
             let back = usize::from(ended) - answer.ended.len() + index;
             assert_eq!(container, &self.made[self.current + back][..]);
-            assert_eq!(one.violations, 0);
+            assert_eq!(one.columns, 0x00);
         }
         self.current += usize::from(ended);
         answer
