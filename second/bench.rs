@@ -7,7 +7,7 @@
 #![allow(dead_code)]
 #![forbid(unsafe_code)]
 
-use crate::second::coverage::{self, Note};
+use crate::second::coverage::{self, Note, Remembered};
 use crate::second::{
     self, Asked, ContainerSource, Ended, Expected, Given, Place, Pointer, Refusal, Sink, UnitSource, AU4,
 };
@@ -198,6 +198,7 @@ pub struct Bench {
     pub given: Given,
     pub sent_trace: [u8; 15],
     pub expected: Expected,
+    remembered: Remembered,
 }
 
 impl Bench {
@@ -234,6 +235,7 @@ impl Bench {
                 ssf_reported: false,
                 ais_reported: false,
             },
+            remembered: Remembered::nothing(),
         }
     }
 
@@ -392,7 +394,9 @@ impl Bench {
             Ok((ended, after)) => {
                 note("unit.made");
                 self.units = after;
-                self.queue.drain(..usize::from(ended));
+                for container in self.queue.drain(..usize::from(ended)) {
+                    self.remembered.sent(container);
+                }
                 format!(
                     "unit ended={ended} word={:02X}{:02X} fnv={:08X} off={}\n",
                     self.line[0],
@@ -419,7 +423,7 @@ impl Bench {
                 return format!("refused {refusal}\n");
             }
         };
-        self.sink = after;
+        let before = std::mem::replace(&mut self.sink, after);
 
         let mut text = String::with_capacity(200);
         let bit = u8::from;
@@ -429,15 +433,23 @@ impl Bench {
             Pointer::Lost => ("lost", "-".to_string()),
         };
         coverage::fed(self.sink.pointer.state, &answer.defects, note);
+        let handed: Vec<(u8, &[u8])> =
+            answer.ended.iter().map(|one| (one.columns, one.place.container(AU4, &self.line, &self.done))).collect();
+        self.remembered.fed(&before, &self.sink, &handed, note);
         let ended = answer.ended.len();
         let _ = write!(text, "ok st={state} off={offset} held={} ended={ended}", self.sink.held);
-        for (count, Ended { place, violations, returned }) in answer.ended.iter().enumerate() {
+        for (count, one) in answer.ended.iter().enumerate() {
+            let Ended { place, columns, returned } = one;
             let container = place.container(AU4, &self.line, &self.done);
             let at = match place {
                 Place::Done => "D@0".to_string(),
                 Place::Unit(from) => format!("U@{from}"),
             };
-            let _ = write!(text, " c={at},{:08X},v={violations},fe={returned}", fnv(container));
+            let _ = write!(text, " c={at},{:08X},v={}", fnv(container), one.violations());
+            if *columns != 0x00 {
+                let _ = write!(text, ",p={columns:02X}");
+            }
+            let _ = write!(text, ",fe={returned}");
             if count + 1 == ended {
                 self.last = Some((container.to_vec(), *place));
             }

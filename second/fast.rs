@@ -349,7 +349,7 @@ pub fn unit_source(
 /// What is said of a container that ended.
 #[derive(Clone, Copy, Debug, PartialEq, Eq)]
 pub struct Ended {
-    pub violations: u8,
+    pub columns: u8,
     pub returned: u8,
 }
 
@@ -391,7 +391,7 @@ impl Answer {
         for (place, one) in done.into_iter().chain(part) {
             ended.push(second::Ended {
                 place,
-                violations: one.violations,
+                columns: one.columns,
                 returned: one.returned,
             });
         }
@@ -593,17 +593,17 @@ fn read_other(p: &mut PointerReader, word: u16, value: u16, normal_word: bool) -
 // Sink: containers, defects, actions, causes
 // ---------------------------------------------------------------------------
 
-/// Violations and returned ones; the parity of this container is kept.
+/// Columns and violations returned; the parity of this container is kept.
 #[inline(always)]
 fn ended(s: &mut Sink, b3: u8, g1: u8, sum: u8) -> Ended {
-    let violations = match s.parity {
-        Some(last) => (b3 ^ last).count_ones() as u8,
-        None => 0,
+    let columns = match s.parity {
+        Some(last) => b3 ^ last,
+        None => 0x00,
     };
     s.parity = Some(sum);
     let returned = g1 >> 4;
     Ended {
-        violations,
+        columns,
         returned: if returned > 8 { 0 } else { returned },
     }
 }

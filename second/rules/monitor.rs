@@ -3,7 +3,7 @@
 
 use super::counts::{up, LAST_PLACE, MOST_EQUAL, MOST_MESSAGES, MOST_WITHOUT};
 use super::cut::Place;
-use super::parity::parity;
+use super::parity::{columns, parity, violations};
 use super::shape::Shape;
 use super::sink::{Expected, Sink};
 use super::trace::trace_check;
@@ -41,10 +41,17 @@ impl Watch {
 #[derive(Clone, Copy, Debug, PartialEq, Eq)]
 pub struct Ended {
     pub place: Place,
-    /// "REI = violations"
-    pub violations: u8,
+    /// "Which bit columns" the parity comparison found violated.
+    pub columns: u8,
     /// "the violations returned (received 9 to 15 read as 0)"
     pub returned: u8,
+}
+
+impl Ended {
+    /// "REI = violations"
+    pub fn violations(&self) -> u8 {
+        violations(self.columns)
+    }
 }
 
 /// "Column 1 holds J1, B3, C2, G1, ... from the top": those that the sink
@@ -86,12 +93,7 @@ impl Sink {
     pub(crate) fn examine(&mut self, shape: Shape, container: &[u8], place: Place, expected: &Expected) -> Ended {
         let overhead = Overhead::of(shape, container);
 
-        // "Violations: ones in (B3 exclusive or last parity), 0 with no last
-        // parity."
-        let violations = match self.parity {
-            Some(parity) => (overhead.b3 ^ parity).count_ones() as u8,
-            None => 0,
-        };
+        let columns = columns(overhead.b3, self.parity);
         self.parity = Some(parity(container));
 
         self.label(overhead.c2, expected);
@@ -101,7 +103,7 @@ impl Sink {
 
         Ended {
             place,
-            violations,
+            columns,
             // "received 9 to 15 read as 0"
             returned: match overhead.returned_bits() {
                 bits @ 0..=8 => bits,
