@@ -137,8 +137,8 @@ fn refusal(s: &Shown) -> Refusal {
 
 /// What is told of a container: how many columns are violated, which where there are any, and the violations returned.
 fn of_container(t: &Told) -> String {
-    let columns = if t.bit_columns == 0 { String::new() } else { format!(",p={:02X}", t.bit_columns) };
-    format!("v={}{columns},fe={}", t.bit_columns.count_ones(), t.returned)
+    let columns = if t.violated == 0 { String::new() } else { format!(",p={:02X}", t.violated) };
+    format!("v={}{columns},fe={}", t.violated.count_ones(), t.returned)
 }
 
 fn told(s: &Shown) -> String {
@@ -357,7 +357,7 @@ impl Load {
                 let ended: Vec<(u8, u8)> = answer.ended.iter().map(|x| (x.columns, x.returned)).collect();
                 let x = &shown.ended;
                 let both = [(x.completed, x.first), (x.inside, x.second)];
-                let told: Vec<(u8, u8)> = both.iter().filter(|(is, _)| *is).map(|(_, t)| (t.bit_columns, t.returned)).collect();
+                let told: Vec<(u8, u8)> = both.iter().filter(|(is, _)| *is).map(|(_, t)| (t.violated, t.returned)).collect();
                 self.same("what ended after any state", ended, told);
                 self.handed("handed back after any state", &answer.ended, (&b.line, &done_2), &shown, (&unit, &done));
                 self.stopped += u64::from(s.unsettled == u16::MAX && !answer.settled);
