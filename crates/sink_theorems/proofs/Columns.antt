@@ -5,7 +5,7 @@ use mathlib.Core.List.{List, [], _∷_}
 use Prim.Native.Nat.{ℕ, zero, suc, _+_, _*_, _/_, _%_, _^_, _<_, _≤_}
 use native.Mathlib.Nat.{mod-lt, mul-one, zero-mul, zero-div}
 use native.Mathlib.Omega.{arith}
-use lib.Bits.{bitXor, differ, xor-comm, xor-zero-l, xor-zero-r, xor-self, xor-shr}
+use lib.Bits.{bitXor, differ, xor-zero-l, xor-zero-r, xor-self, xor-shr}
 use lib.ListN.{length, getD, length-map, List·getD-map}
 use Rattle.laws.proofs.Bits.{xor-odd}
 use Rattle.parity.specs.Parity.{parityOf}
@@ -47,19 +47,18 @@ turned-parity [] (d ∷ ds) h = absurd (omega arith)
 turned-parity (b ∷ bs) [] h = sym (xor-zero-r (parityOf (b ∷ bs)))
 turned-parity (b ∷ bs) (d ∷ ds) h = ap (bitXor (bitXor b d)) (turned-parity bs ds (omega arith)) ∙ xor-middle b d (parityOf bs) (parityOf ds)
 
--- x and then y were sent, B3 of y being the parity of x; in x the bits `d` were turned over on the way, in y the bits `e`
-module _ (columns : ℕ) (x y d e : List ℕ) (some : 0 < columns) (row : columns < length y) (short : length d ≤ length x)
-    (sent : seenIn columns y .b3 ≡ parityOf x) where
-  -- The columns told of y are the exclusive or of all that was turned over in x, and of what was in B3 of y.
-  pub columns-show : toldAfter columns (turnedOver x d) (turnedOver y e) ≡ bitXor (getD e columns 0) (parityOf d)
-  columns-show =
-      let b3 : getD y columns 0 ≡ parityOf x = sym (ap (λ (o : Overhead). o .b3) (seen-at columns y some)) ∙ sent in
-      by-bytes columns (turnedOver x d) (turnedOver y e) some
-      ∙ ap₂ bitXor (turned-at y e columns row) (turned-parity x d short)
-      ∙ ap (λ (b : ℕ). bitXor (bitXor b (getD e columns 0)) (bitXor (parityOf x) (parityOf d))) b3
-      ∙ xor-middle (parityOf x) (getD e columns 0) (parityOf x) (parityOf d)
-      ∙ ap (λ (k : ℕ). bitXor k (bitXor (getD e columns 0) (parityOf d))) (xor-self (parityOf x))
-      ∙ xor-zero-l (bitXor (getD e columns 0) (parityOf d))
+-- x and then y were sent, B3 of y being the parity of x; in x the bits `d` were turned over on the way, in y the bits `e`. The columns told of y are the exclusive or of all that
+-- was turned over in x, and of what was in B3 of y.
+pub columns-show : (columns : ℕ) (x y d e : List ℕ) → 0 < columns → columns < length y → length d ≤ length x → seenIn columns y .b3 ≡ parityOf x
+    → toldAfter columns (turnedOver x d) (turnedOver y e) ≡ bitXor (getD e columns 0) (parityOf d)
+columns-show columns x y d e some row short sent =
+    let b3 : getD y columns 0 ≡ parityOf x = sym (ap (λ (o : Overhead). o .b3) (seen-at columns y some)) ∙ sent in
+    by-bytes columns (turnedOver x d) (turnedOver y e) some
+    ∙ ap₂ bitXor (turned-at y e columns row) (turned-parity x d short)
+    ∙ ap (λ (b : ℕ). bitXor (bitXor b (getD e columns 0)) (bitXor (parityOf x) (parityOf d))) b3
+    ∙ xor-middle (parityOf x) (getD e columns 0) (parityOf x) (parityOf d)
+    ∙ ap (λ (k : ℕ). bitXor k (bitXor (getD e columns 0) (parityOf d))) (xor-self (parityOf x))
+    ∙ xor-zero-l (bitXor (getD e columns 0) (parityOf d))
 
 -- ---- one line
 
