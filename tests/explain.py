@@ -920,6 +920,8 @@ ANSWERS = {
     f"{AT_ONE}run 1\nsrc -\nxor 100 A0\nsink\nsrc d\nsink\n": "; two parity violations, in columns 1 and 3 of the second container (HP-BIP); ",
     f"{AT_ONE}src -\nxor 100 A0\nsink\nsrc -\nxor 100 07\nsink\nsrc d\nsink\n":
         "; 5 parity violations, in columns 1 and 3 of the first container and in columns 6, 7 and 8 of the second container (HP-BIP); ",
+    f"{AT_ONE}src -\nxor 100 A0\nsink\nsrc -\nxor 100 07\nsink\nsrc d\nxor 200 07\nsink\nrun 1\n": "; 3 parity violations, again in columns 6, 7 and 8 (HP-BIP); ",
+    "run 4\nsrc -\nxor 100 20\nsink\nrun 1\nfresh\nrun 4\nsrc -\nxor 100 20\nsink\nrun 1\n": "; one parity violation, in column 3 (HP-BIP); ",  # both times
     "run 80\n": "In all: 80 units, 17 settled and 63 not; settled from unit 64 on",
     'tx 00 "" 0 0\nrun 3\n': "units 1 to 3, one line fed 3 times: nothing new was sent (container refused 4); ",
     'tx 12 03E5 0 0\n': 'has no quotes; as a name it is written "03E5"',
