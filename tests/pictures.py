@@ -5,7 +5,8 @@
 
 Every script under examples and lessons is played, and script and printed lines are read here once more. Its picture is
 taken from the drawn shapes, not from how they came about: the units' cells by their places, then which cells each bar,
-band and box covers, which row name stands beside it and which text in it; letters by the cells that they stand above,
+band and box covers, which row name stands beside it and which text in it; of violations the bit columns, container by
+container, from the places of the filled cells; letters by the cells that they stand above,
 and behind each letter the text; questions with their bytes and answers. Blanks of a trace must be there one by one.
 Texts may not lie upon one another or outside the picture, and must be large enough on a screen and on a page. Damaged
 pictures must be found out, and bad input must give a message, a status and no picture. The pictures of runs in
@@ -220,9 +221,9 @@ class Call:
         if self.refused is None:
             parts = [part.partition("=") for part in text.split(" ")[1:]]
             self.said = {key: value for key, _, value in parts if key != "c"}
-            ended = [value.split(",") for key, _, value in parts if key == "c"]
-            self.violations = sum(int(container[2][2:]) for container in ended)
-            self.returned = sum(int(container[3][3:]) for container in ended)
+            ended = [dict(field.split("=") for field in value.split(",")[2:]) for key, _, value in parts if key == "c"]
+            self.violations, self.returned = (sum(int(container[name]) for container in ended) for name in ("v", "fe"))
+            self.columns = [container.get("p", "00") for container in ended] if self.violations else []  # of each container, as printed
             actions = [name for name in NAMES[4:8] if self.said[name.lower()] == "1"]
             self.standing = [name for name in NAMES if name in self.said["d"].split(",") + actions + self.said["cause"].split(",")]
 
@@ -735,6 +736,7 @@ def column_faults(picture, calls, units, every_row):
             here = [text.text for rect in rects if cell.has(*rect.middle) for text in picture.in_it(rect)]
             if here != [str(number)] * (number > 0):
                 yield f"{what}: {name} {here}, not {number}"
+    yield from bit_column_faults(picture, calls, left)
     # totals: of one unit, or of the first and the last of a stretch
     told = set()
     for text in (text for text in picture.texts if text.row == "total"):
@@ -755,6 +757,36 @@ def column_faults(picture, calls, units, every_row):
     if units and calls.index(units[-1]) not in told:
         yield "the last total is not told"
     yield from yield_later
+
+
+def bit_column_faults(picture, calls, left):
+    """What is wrong with the bit columns of violations: in each cell a pile of eight for each container, side by side, filled where violated, 1 at the top."""
+    cells = picture.of("columns")
+    for call, cell in zip(calls, picture.cells):
+        here = sorted((rect for rect in cells if cell.has(*rect.middle)), key=lambda rect: (round(rect.x), rect.y))
+        piles = [[rect for rect in here if round(rect.x) == x] for x in sorted({round(rect.x) for rect in here})]
+        drawn = ["".join({"violated": "1", "sound": "0"}.get(rect.classes, "?") for rect in pile) for pile in piles]
+        expected = call.columns if call.unit else []
+        if drawn != [f"{int(byte, 16):08b}" for byte in expected]:
+            yield f"unit {call.unit}: the bit columns drawn are {drawn}, and those of its containers {expected}"
+            continue
+        if any(one.x + one.width > other.x for one, other in zip(here[::8], here[8::8])):
+            yield f"unit {call.unit}: the bit columns of two containers lie upon one another"
+        for pile in piles:
+            # level with the numbers of the first and the last beside the band, with the row's name between them
+            texts = [text for text in picture.texts if text.x + text.width <= left and pile[0].y - 2 <= text.middle[1] <= pile[-1].y + pile[-1].height + 2]
+            level = [next((text.text for text in texts if text.classes == "pale" and abs(text.middle[1] - rect.middle[1]) <= 2), None) for rect in pile]
+            if level != ["1", *[None] * 6, "8"] or [text.text for text in texts if text.bold] != ["bit columns"]:
+                yield f"unit {call.unit}: beside its bit columns stand {level} and {[text.text for text in texts if text.bold]}"
+        # the bytes below; in a narrow cell there may be no room for them
+        bytes_below = sorted((text for text in picture.texts if text.row == "columns" and cell.has(*text.middle)), key=lambda text: text.x)
+        told = [text.text for text in bytes_below]
+        if told != [byte for byte in expected if byte != "00"] and (told or cell.width >= 60):
+            yield f"unit {call.unit}: the bytes of its bit columns are {told}, not {expected}"
+        for text in bytes_below:
+            above = [byte for byte, pile in zip(expected, piles) if pile[0].x - 6 <= text.middle[0] <= pile[0].x + pile[0].width + 6 and text.y > pile[-1].y]
+            if text.text not in above:
+                yield f"unit {call.unit}: {text.text} stands below {above}"
 
 
 def line_faults(picture, reading):
@@ -1005,7 +1037,10 @@ def check_bad_input(bench, folder):
         ("a defect that has no row", [], ok.replace(b"d=dTIM", b"d=dTIM,dDEG"), 1, "no picture has a place for that"),
         ("defects in another order", [], ok.replace(b"d=dTIM", b"d=dRDI,dTIM"), 1, "no picture has a place for that"),
         ("a field that has no row", [], ok.replace(b" d=", b" send=2 d="), 1, "no picture has a place for that"),
-        ("a container's field that has no row", [], ok.replace(b",fe=", b",p=01,fe="), 1, "no picture has a place for that"),
+        ("a container's field that has no row", [], ok.replace(b",fe=", b",q=01,fe="), 1, "no picture has a place for that"),
+        ("bit columns that are not as many as the violations", [], ok.replace(b"v=0,", b"v=2,p=01,"), 1, "printed line 1 is not understood"),
+        ("bit columns of no violations", [], ok.replace(b"v=0,", b"v=0,p=00,"), 1, "printed line 1 is not understood"),
+        ("a bench before bit columns", [], ok.replace(b"v=0,", b"v=2,"), 1, "(an earlier bench printed this, without p=; play the script again)"),
         ("bytes that are no text", [], b"\xff\x00\n", 1, "not understood"),
         ("too many units", [], ok * 2001, 1, "at most 2000"),
         ("a run of another script", ["--script", good], ok, 1, "not a run of this script"),

@@ -38,7 +38,7 @@ BARS = {
 ALL_BARS = [name for names in BARS.values() for name in names]
 # The fields of a unit, and of a container that ended, which the picture shows or may leave out.
 FIELDS = {"c", *script.SINK}
-CONTAINER = {"in", "place", "fnv", "v", "fe"}
+CONTAINER = {"in", "place", "fnv", "v", "p", "fe"}
 
 # ---------------------------------------------------------------------------
 # Traces and other bytes
@@ -217,6 +217,7 @@ class Run:
             column.state, column.ended = said["st"], said["ended"]
             column.offset = "" if said["off"] == "-" else str(said["off"])
             column.violations, column.returned = (sum(container[key] for container in said["c"]) for key in ("v", "fe"))
+            column.violated = [container["p"] for container in said["c"]] if column.violations else []
             column.standing = {*said["d"], *said["cause"], *(name for name in BARS["actions"] if said[name.lower()])}
             column.settled, column.total = said["settled"] == 1, said["total"]
         self.columns.append(column)
@@ -520,6 +521,7 @@ text {{ font-family: {FONT}; }}
 .offset {{ fill: #ffffff; stroke: #2b5d8c; stroke-width: 2; }}
 .ended {{ fill: #0b6e69; }}
 .violations {{ fill: #ffffff; stroke: #9c0f1a; stroke-width: 3; }}
+.violated {{ fill: #9c0f1a; stroke: #9c0f1a; stroke-width: 1; }} .sound {{ fill: #ffffff; stroke: #b08a8d; stroke-width: 1; }}
 .returned {{ fill: #ffffff; stroke: #1d4e9e; stroke-width: 3; }}
 .defect {{ fill: #b3121d; }} .action {{ fill: #1d4e9e; }} .cause {{ fill: #5e2090; }}
 .settled {{ fill: #17803a; }}
@@ -548,6 +550,7 @@ ROOMY = 60  # from this width on a column has its values written in it
 LEAST_NOTES, BETWEEN = 620, 40  # a column of notes, and what lies between two
 NAME, VALUE, GROUP, SMALL = 27, 25, 22, 21  # sizes of type
 LETTER, LINE = 34, 28  # from a note to the next, and from a line to the next within a box
+BIT, BYTE = 13, 34  # how high a bit column is drawn, and the byte of them below
 AXIS, GAP = 44, 8  # the numbers of the units, and what lies above a group of rows
 
 
@@ -725,6 +728,7 @@ class Drawing:
         rows.append(("containers", "ended", "", 46 if self.roomy else 52, self.draw_ended))
         if self.every_row or any(column.violations for column in units):
             rows.append(("containers", "violations", "", 44, self.draw_violations))
+            rows.append(("containers", "bit columns", "", 8 + 8 * BIT + BYTE, self.draw_bit_columns))
         if self.every_row or any(column.returned for column in units):
             rows.append(("containers", "returned", "", 44, self.draw_returned))
         for group, names in BARS.items():
@@ -836,6 +840,25 @@ class Drawing:
 
     def draw_violations(self, band, y, height):
         self.draw_numbers(band, y, height, lambda column: column.violations, "violations")
+
+    def draw_bit_columns(self, band, y, height):
+        """The eight bit columns of a container with violations, 1 at the top, the violated ones filled, and their byte below. Those of all containers
+        of a unit stand side by side in their order, so that it is seen whose they are; one column that comes back is one line through the units."""
+        top = y + 8
+        for number, what in ((0.5, "1"), (7.5, "8"), (8 + BYTE / 2 / BIT, "p=")):
+            self.out.text(GUTTER - 14, top + number * BIT, what, SMALL, "pale", anchor="end")
+        for number in range(9):
+            self.out.line(GUTTER, top + number * BIT, self.end[band[-1]], top + number * BIT, "grid")
+        for place in band:
+            column, (x, width) = self.columns[place], self.span(place, place)
+            each = width / max(1, len(column.violated)) if column.unit else 0
+            for k, byte in enumerate(column.violated if column.unit else []):
+                side = min(each - 4 if self.roomy else each - 2, 36)
+                for number in range(8):
+                    kind = "violated" if byte & 0x80 >> number else "sound"
+                    self.out.rect(x + (k + 0.5) * each - side / 2, top + number * BIT + 1, side, BIT - 2, kind, data_row="columns")
+                if byte:
+                    self.out.fitted(x + k * each, top + 8 * BIT, each, BYTE, [f"{byte:02X}"], VALUE, bold=True, data_row="columns")
 
     def draw_returned(self, band, y, height):
         self.draw_numbers(band, y, height, lambda column: column.returned, "returned")
