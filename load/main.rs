@@ -19,7 +19,7 @@ mod second;
 
 use bench::words::next_line;
 use bench::{Bench, Command};
-use proved::c::{Accepted, Defect, Flags, Gathered, Monitor, Parity, Plain, Refusal, Rows, Run, Settings, Shown, Trace, Watch};
+use proved::c::{Accepted, Defect, Flags, Gathered, Monitor, Parity, Plain, Refusal, Rows, Run, Settings, Shown, Told, Trace, Watch};
 use random::Random;
 use second::coverage::{Counts, NAMES};
 use second::{Asked, Ended, Pointer, Sink, AU4};
@@ -135,6 +135,12 @@ fn refusal(s: &Shown) -> Refusal {
     Refusal { number: s.number, place: s.place }
 }
 
+/// What is told of a container: how many columns are violated, which where there are any, and the violations returned.
+fn of_container(t: &Told) -> String {
+    let columns = if t.bit_columns == 0 { String::new() } else { format!(",p={:02X}", t.bit_columns) };
+    format!("v={}{columns},fe={}", t.bit_columns.count_ones(), t.returned)
+}
+
 fn told(s: &Shown) -> String {
     if s.number != 0 {
         return format!("refused {}", refusal(s));
@@ -147,10 +153,10 @@ fn told(s: &Shown) -> String {
     };
     let mut text = format!("ok st={state} off={offset} held={} ended={}", p.held, s.ended.number);
     if s.ended.completed {
-        let _ = write!(text, " c=D@0,v={},fe={}", s.ended.first.violations, s.ended.first.returned);
+        let _ = write!(text, " c=D@0,{}", of_container(&s.ended.first));
     }
     if s.ended.inside {
-        let _ = write!(text, " c=U@{},v={},fe={}", s.ended.place, s.ended.second.violations, s.ended.second.returned);
+        let _ = write!(text, " c=U@{},{}", s.ended.place, of_container(&s.ended.second));
     }
     let a = &s.actions;
     let d = &s.defects;
@@ -186,10 +192,10 @@ fn printed(line: &str) -> String {
             continue;
         }
         match word.strip_prefix("c=") {
-            // place, sum, violations, returned
+            // place, sum, and what is told of it
             Some(rest) => {
-                let parts: Vec<&str> = rest.split(',').collect();
-                words.push(format!("c={},{},{}", parts[0], parts[2], parts[3]));
+                let parts: Vec<&str> = rest.splitn(3, ',').collect();
+                words.push(format!("c={},{}", parts[0], parts[2]));
             }
             None => words.push(word.to_string()),
         }
@@ -348,10 +354,10 @@ impl Load {
                 self.same("settled after any state", answer.settled, shown.settled);
                 let c = &shown.causes;
                 self.same("the causes after any state", answer.causes, [c.ais, c.lop, c.ssf, c.uneq, c.tim, c.rdi, c.plm]);
-                let ended: Vec<(u8, u8)> = answer.ended.iter().map(|x| (x.violations, x.returned)).collect();
+                let ended: Vec<(u8, u8)> = answer.ended.iter().map(|x| (x.columns, x.returned)).collect();
                 let x = &shown.ended;
                 let both = [(x.completed, x.first), (x.inside, x.second)];
-                let told: Vec<(u8, u8)> = both.iter().filter(|(is, _)| *is).map(|(_, t)| (t.violations, t.returned)).collect();
+                let told: Vec<(u8, u8)> = both.iter().filter(|(is, _)| *is).map(|(_, t)| (t.bit_columns, t.returned)).collect();
                 self.same("what ended after any state", ended, told);
                 self.handed("handed back after any state", &answer.ended, (&b.line, &done_2), &shown, (&unit, &done));
                 self.stopped += u64::from(s.unsettled == u16::MAX && !answer.settled);

@@ -7,7 +7,7 @@
 #![allow(dead_code)]
 #![forbid(unsafe_code)]
 
-use crate::second::coverage::{self, Note};
+use crate::second::coverage::{self, Note, Remembered};
 use crate::second::{
     self, Asked, ContainerSource, Ended, Expected, Given, Place, Pointer, Refusal, Sink, UnitSource, AU4,
 };
@@ -198,6 +198,7 @@ pub struct Bench {
     pub given: Given,
     pub sent_trace: [u8; 15],
     pub expected: Expected,
+    remembered: Remembered,
 }
 
 impl Bench {
@@ -234,6 +235,7 @@ impl Bench {
                 ssf_reported: false,
                 ais_reported: false,
             },
+            remembered: Remembered::nothing(),
         }
     }
 
@@ -392,7 +394,9 @@ impl Bench {
             Ok((ended, after)) => {
                 note("unit.made");
                 self.units = after;
-                self.queue.drain(..usize::from(ended));
+                for container in self.queue.drain(..usize::from(ended)) {
+                    self.remembered.sent(container);
+                }
                 format!(
                     "unit ended={ended} word={:02X}{:02X} fnv={:08X} off={}\n",
                     self.line[0],
@@ -419,7 +423,7 @@ impl Bench {
                 return format!("refused {refusal}\n");
             }
         };
-        self.sink = after;
+        let before = std::mem::replace(&mut self.sink, after);
 
         let mut text = String::with_capacity(200);
         let bit = u8::from;
@@ -429,6 +433,9 @@ impl Bench {
             Pointer::Lost => ("lost", "-".to_string()),
         };
         coverage::fed(self.sink.pointer.state, &answer.defects, note);
+        let handed: Vec<(u8, &[u8])> =
+            answer.ended.iter().map(|one| (one.columns, one.place.container(AU4, &self.line, &self.done))).collect();
+        self.remembered.fed(&before, &self.sink, &handed, note);
         let ended = answer.ended.len();
         let _ = write!(text, "ok st={state} off={offset} held={} ended={ended}", self.sink.held);
         for (count, one) in answer.ended.iter().enumerate() {

@@ -9,10 +9,10 @@ use super::rules::counts::{
     LAST_PLACE, MOST_ALARM_WORDS, MOST_ALIKE_WORDS, MOST_ENABLED_WORDS, MOST_EQUAL, MOST_INVALID_WORDS, MOST_WITHOUT,
 };
 use super::rules::{
-    adjustment, inverted, trace_fault, Answer, Checked, Expected, Given, Overhead, Place, Pointer, PointerReader, Refusal, Shape,
-    Sink, Taken, Watch, Word, AU4, RECORD_LENGTH,
+    adjustment, columns, inverted, parity, trace_fault, violations, Answer, Checked, Expected, Given, Overhead, Place, Pointer,
+    PointerReader, Refusal, Shape, Sink, Taken, Watch, Word, AU4, RECORD_LENGTH,
 };
-use std::collections::{HashMap, HashSet};
+use std::collections::{HashMap, HashSet, VecDeque};
 use std::fmt::Write as _;
 
 /// Told the name of each case of a rule that is met, so that a test can ask
@@ -67,6 +67,8 @@ pub const NAMES: &[&str] = &[
     "violations.no-last-parity",
     "violations.0", "violations.1", "violations.2", "violations.3", "violations.4",
     "violations.5", "violations.6", "violations.7", "violations.8",
+    "columns.1", "columns.2", "columns.3", "columns.4", "columns.5", "columns.6", "columns.7", "columns.8",
+    "columns.two-to-seven", "columns.all-eight",
     "returned.0", "returned.1", "returned.2", "returned.3", "returned.4", "returned.5",
     "returned.6", "returned.7", "returned.8", "returned.9-as-0", "returned.10-as-0",
     "returned.11-as-0", "returned.12-as-0", "returned.13-as-0", "returned.14-as-0", "returned.15-as-0",
@@ -113,6 +115,14 @@ pub const NAMES: &[&str] = &[
     "sink.refused-5-before-1", "sink.refused-20-before-1", "sink.refused-21-before-1",
     "sink.refused-5-before-3", "sink.refused-20-before-3", "sink.refused-21-before-3", "sink.refused-1-before-3",
     "sink.refused-3-held-alone", "sink.refused-3-done-alone",
+    // The columns of one container after the other
+    "columns.same-alone-again", "columns.another-alone-next", "columns.as-many-others-next",
+    "columns.of-B3-in-its-own", "columns.of-B3-in-the-next-too", "columns.of-another-byte-in-the-next-alone",
+    "columns.none-of-two", "columns.first-of-two-alone", "columns.second-of-two-alone",
+    "columns.both-of-two-different", "columns.both-of-two-alike",
+    "columns.none-when-fresh", "columns.none-after-alarm", "columns.none-after-lost",
+    "columns.none-after-new-data", "columns.none-after-found",
+    // Answers of the other calls
     "payload.of-none", "payload.of-done", "payload.of-unit", "payload.all-ones",
     "catalogue.none", "catalogue.some", "catalogue.512",
     "catalogue.refused-9", "catalogue.refused-10", "catalogue.refused-11", "catalogue.refused-4",
@@ -501,6 +511,9 @@ const VIOLATION_NAMES: [&str; 9] = [
     "violations.0", "violations.1", "violations.2", "violations.3", "violations.4",
     "violations.5", "violations.6", "violations.7", "violations.8",
 ];
+const COLUMN_NAMES: [&str; 8] = [
+    "columns.1", "columns.2", "columns.3", "columns.4", "columns.5", "columns.6", "columns.7", "columns.8",
+];
 const RETURNED_NAMES: [&str; 16] = [
     "returned.0", "returned.1", "returned.2", "returned.3", "returned.4", "returned.5",
     "returned.6", "returned.7", "returned.8", "returned.9-as-0", "returned.10-as-0",
@@ -511,10 +524,17 @@ const RETURNED_NAMES: [&str; 16] = [
 #[inline]
 pub fn container(shape: Shape, before: &Sink, container: &[u8], after: &Sink, note: Note) {
     let overhead = Overhead::of(shape, container);
+    let columns = columns(overhead.b3, before.parity);
     note(match before.parity {
-        Some(parity) => VIOLATION_NAMES[(overhead.b3 ^ parity).count_ones() as usize],
+        Some(_) => VIOLATION_NAMES[usize::from(violations(columns))],
         None => "violations.no-last-parity",
     });
+    match violations(columns) {
+        0 => {}
+        1 => note(COLUMN_NAMES[columns.leading_zeros() as usize]),
+        8 => note("columns.all-eight"),
+        _ => note("columns.two-to-seven"),
+    }
     label(before, after, note);
     watch(&before.uneq, &after.uneq, &UNEQ_NAMES, note);
     watch(&before.remote, &after.remote, &REMOTE_NAMES, note);
@@ -645,6 +665,158 @@ fn good_message(before: &Sink, after: &Sink, note: Note) {
             (true, false) => note("dTIM.cleared"),
             (true, true) => note("dTIM.stays-by-a-message"),
             (false, false) => {}
+        }
+    }
+}
+
+// ---------------------------------------------------------------------------
+// The columns of one container after the other
+// ---------------------------------------------------------------------------
+
+/// Where B3 stands in a container of the bench.
+const B3: usize = AU4.columns;
+
+/// How many containers are remembered of those that the source ended: more than
+/// lie between it and the sink.
+const MOST_SENT: usize = 4;
+
+/// Why there is no last parity, or was none.
+#[derive(Clone, Copy, PartialEq)]
+enum Without {
+    Fresh,
+    Alarm,
+    Lost,
+    NewData,
+    Found,
+}
+
+/// How a container that was handed back differs from the one that was sent.
+#[derive(Clone, Copy)]
+enum Damage {
+    None,
+    /// The byte at this place, by these bits.
+    One(usize, u8),
+    /// More than that, or it is none of those remembered.
+    Other,
+}
+
+/// A container that was handed back.
+struct Handed {
+    columns: u8,
+    parity: u8,
+    damage: Damage,
+}
+
+/// What the bench remembers of the units before, for these cases alone.
+pub struct Remembered {
+    sent: VecDeque<Vec<u8>>,
+    last: Option<Handed>,
+    without: Without,
+}
+
+impl Remembered {
+    pub fn nothing() -> Self {
+        Remembered {
+            sent: VecDeque::new(),
+            last: None,
+            without: Without::Fresh,
+        }
+    }
+
+    /// A container that the source ended.
+    pub fn sent(&mut self, container: Vec<u8>) {
+        self.sent.truncate(MOST_SENT - 1);
+        self.sent.push_front(container);
+    }
+
+    fn damage(&self, container: &[u8]) -> Damage {
+        for sent in &self.sent {
+            let mut differ = container.iter().zip(sent).enumerate().filter(|(_, (one, other))| one != other);
+            match (differ.next(), differ.next()) {
+                (None, _) => return Damage::None,
+                (Some((place, (one, other))), None) => return Damage::One(place, one ^ other),
+                _ => {}
+            }
+        }
+        Damage::Other
+    }
+
+    /// A unit that was fed: the state before it and after it, and the containers
+    /// that ended, each with its columns.
+    pub fn fed(&mut self, before: &Sink, after: &Sink, ended: &[(u8, &[u8])], note: Note) {
+        let dropped = match (before.pointer.state, after.pointer.state) {
+            (_, Pointer::Alarm) => Some(Without::Alarm),
+            (_, Pointer::Lost) if self.without != Without::Fresh || self.last.is_some() => Some(Without::Lost),
+            (Pointer::Normal(_), Pointer::Normal(_)) if after.pointer.enabled_words > 0 => Some(Without::NewData),
+            (Pointer::Normal(one), Pointer::Normal(other)) if one != other && after.pointer.run == MOST_ALIKE_WORDS => {
+                Some(Without::Found)
+            }
+            _ => None,
+        };
+        let mut known = before.parity.is_some() && dropped.is_none();
+        self.without = dropped.unwrap_or(self.without);
+        for (columns, container) in ended {
+            let damage = self.damage(container);
+            if known {
+                self.next(*columns, damage, note);
+            } else {
+                self.first(container[B3], note);
+            }
+            known = true;
+            self.last = Some(Handed {
+                columns: *columns,
+                parity: parity(container),
+                damage,
+            });
+        }
+        if let [(first, _), (second, _)] = ended {
+            note(match (first, second) {
+                (0, 0) => "columns.none-of-two",
+                (_, 0) => "columns.first-of-two-alone",
+                (0, _) => "columns.second-of-two-alone",
+                _ if first == second => "columns.both-of-two-alike",
+                _ => "columns.both-of-two-different",
+            });
+        }
+    }
+
+    /// A container with no last parity: one that was kept, or 00 in its place,
+    /// would have given it columns.
+    fn first(&self, b3: u8, note: Note) {
+        if b3 == 0x00 || self.last.as_ref().map_or(false, |last| last.parity == b3) {
+            return;
+        }
+        note(match self.without {
+            Without::Fresh => "columns.none-when-fresh",
+            Without::Alarm => "columns.none-after-alarm",
+            Without::Lost => "columns.none-after-lost",
+            Without::NewData => "columns.none-after-new-data",
+            Without::Found => "columns.none-after-found",
+        });
+    }
+
+    /// A container behind the last.
+    fn next(&self, columns: u8, damage: Damage, note: Note) {
+        if let Damage::One(B3, with) = damage {
+            if columns == with {
+                note("columns.of-B3-in-its-own");
+            }
+        }
+        let Some(last) = &self.last else { return };
+        match (violations(last.columns), violations(columns)) {
+            (1, 1) if last.columns == columns => note("columns.same-alone-again"),
+            (1, 1) => note("columns.another-alone-next"),
+            (2.., count) if count == violations(last.columns) && last.columns != columns => note("columns.as-many-others-next"),
+            _ => {}
+        }
+        match (last.damage, damage) {
+            (Damage::One(B3, with), Damage::None) if last.columns == with && columns == with => {
+                note("columns.of-B3-in-the-next-too");
+            }
+            (Damage::One(place, with), Damage::None) if place != B3 && last.columns == 0x00 && columns == with => {
+                note("columns.of-another-byte-in-the-next-alone");
+            }
+            _ => {}
         }
     }
 }

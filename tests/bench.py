@@ -8,7 +8,8 @@ BENCH reads a script on standard input; SECOND is the second program, asked with
 SCRIPTS makes a script from a seed and a number of units; the scripts under examples and
 lessons are played too, and a few that are long. The first line that differs is printed with the script
 up to the line that caused it. Every case that the second program names must be met by
-some random script. Of both programs each typed line must be answered before the next is
+some random script, and each container that a random script prints has as many violations
+as columns. Of both programs each typed line must be answered before the next is
 typed, and output that cannot be written must be said on standard error. The proved bench
 must do with a stack of 1 MiB, and print what docs/BENCH.md shows.
 
@@ -27,6 +28,9 @@ import subprocess
 import sys
 import tempfile
 import time
+
+sys.dont_write_bytecode = True  # no folder beside the tests
+from playing import containers_of
 
 LIMIT = 120  # seconds for one run of one program
 ANSWER = 30  # seconds for the answer to one typed line: none takes a second, so that only a program which waits for more comes to it
@@ -297,6 +301,7 @@ def main():
             compared += 1
             if line.startswith(b"ok st="):
                 sinks += 1
+                containers_of(line.decode(), lambda fault, what=what: sys.exit(f"bench.py: {what}: {fault}"))
                 states[line[6:].split(b" ", 1)[0].decode()] += 1
                 settled += b" settled=1 " in line
             elif line.startswith(b"refused "):

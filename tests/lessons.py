@@ -9,7 +9,7 @@ that differs is printed with its number. Then the scripts themselves are looked 
 script are read by this test:
 
     # see: WORDS          behind a command, on its line or the next: the words stand in the line that it printed last, in this order
-                          (`c=U@9,F,v=0,fe=0` is four words; `d=dTIM,dPLM` is one)
+                          (`c=U@9,F,v=1,p=80,fe=0` is five words; `d=dTIM,dPLM` is one)
     # row P1: ..          the unit that is fed next has the word of that row of the pointer table; ROWS says what must follow
     # not understood: ..  the next line prints `? N`; no other line may
     #   7,12,"03E5",15     set in, above `import` and `export`: the lines of the text that is given or printed, `<CR>` and `<no LF>` where that is so
@@ -27,7 +27,7 @@ import re
 import sys
 
 sys.dont_write_bytecode = True  # no folder beside the tests
-from playing import play, read_line, refused_at_once
+from playing import containers_of, play, read_line, refused_at_once
 
 ROOT = os.path.dirname(os.path.dirname(os.path.abspath(__file__)))
 FOLDER = os.path.join(ROOT, "lessons")
@@ -79,8 +79,9 @@ class Shown:
 
 
 class Lesson:
-    def __init__(self, name, script, shown):
+    def __init__(self, name, script, shown, fault):
         self.name, self.script, self.shown = name, script, shown
+        self.containers = [containers_of(one.lines[-1], lambda what, one=one: fault(f"{name}.bench:{one.number}", what)) for one in self.sinks()]
 
     def sinks(self):
         return [one for one in self.shown if one.fed()]
@@ -293,7 +294,7 @@ def look_at_together(lesson, fault):
 def look_at_nothing(lesson, fault):
     if not any(one.field("cause") == "cUNEQ" for one in lesson.sinks()):
         fault(f"{lesson.name}.bench", "no unit has cUNEQ and no other cause")
-    if any(",v=" in one.lines[-1] and ",v=0" not in one.lines[-1] for one in lesson.sinks()):
+    if any(container.columns for containers in lesson.containers for container in containers):
         fault(f"{lesson.name}.bench", "a container has violations")
 
 
@@ -430,7 +431,7 @@ def lesson_of(program, name, fault):
     printed = play(program, text, name)
     compare(name, printed, read(f"lessons/{name}.out"), fault)
     script = text.decode(errors="replace").split("\n")
-    return Lesson(name, script, pair(name, script, printed.decode(errors="replace").splitlines(), fault))
+    return Lesson(name, script, pair(name, script, printed.decode(errors="replace").splitlines(), fault), fault)
 
 
 def main():

@@ -4,9 +4,13 @@ import os
 import re
 import subprocess
 import sys
+from collections import namedtuple
 
 LIMIT = 120  # seconds for one run of one program
 WORD = re.compile(r'"(?:[^"]|"")*"(?= |$)|[^ "#][^ ]*')
+CONTAINER = re.compile(r"(D@0|U@\d+),([0-9A-F]{8}),v=(\d),(?:p=([0-9A-F]{2}),)?fe=(\d)")
+# of a container that the sink handed back: where, its FNV, its violations, the columns as a byte with column 1 the highest bit, the violations returned
+Container = namedtuple("Container", "place fnv violations columns returned")
 
 
 def run(command, given=b"", env=None):
@@ -36,6 +40,27 @@ def read_line(line):
         words.append(found.group())
         rest = rest[found.end():].lstrip(" ")
     return words, rest
+
+
+def containers_of(line, fault):
+    """The containers of a line that `sink` printed. `fault` is told where one is not written as it must be, the violations are not as many as the columns,
+    columns are printed where there are none, or the line ends another number of containers."""
+    containers = []
+    for word in line.split(" "):
+        if not word.startswith("c="):
+            continue
+        found = CONTAINER.fullmatch(word[2:])
+        if not found:
+            fault(f"{word} is not how a container is printed: {line}")
+            continue
+        place, fnv, violations, columns, returned = found.groups()
+        one = Container(place, fnv, int(violations), int(columns or "0", 16), int(returned))
+        if one.violations != one.columns.bit_count() or columns == "00":
+            fault(f"{word} does not have as many violations as columns, or has no column and prints them: {line}")
+        containers.append(one)
+    if line.startswith("ok ") and f" ended={len(containers)} " not in line:
+        fault(f"{len(containers)} containers are read: {line}")
+    return containers
 
 
 def trace_of(word):

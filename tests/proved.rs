@@ -106,7 +106,7 @@ pub mod c {
         Watch { label: Accepted, plm: bool, uneq: Defect, rdi: Defect, trace: Trace }
         Monitor { parity: Parity, watch: Watch }
         Plain { kind: u8, offset: u16, rows: Rows, run: Run, wait: u8, held: usize, monitor: Monitor, total: u16 }
-        Told { violations: u8, returned: u8 }
+        Told { bit_columns: u8, returned: u8 }
         Ended { number: u8, completed: bool, inside: bool, place: usize, first: Told, second: Told }
         Actions { ssf: bool, tsf: bool, ais: bool, rdi: bool }
         Defects { uneq: bool, tim: bool, plm: bool, rdi: bool }

@@ -842,6 +842,69 @@ impl Script {
         }
     }
 
+    /// Bits of a byte: one for the most part, any, or all.
+    fn bits(&mut self) -> u8 {
+        let (one, any) = (1 << self.r.below(8), self.r.byte());
+        self.of(&[one, one, one, one, any, 0xFF])
+    }
+
+    /// Bits of the source's unit turned over: those of a B3, or of a byte of the
+    /// payload close behind J1.
+    fn hit(&mut self, b3: bool, with: u8) {
+        let at = if b3 { 0 } else { 1 + self.r.below(20) };
+        let place = 9 + (3 * usize::from(self.path.units.offset) + 261 * usize::from(b3) + at) % 2349;
+        self.say(&format!("xor {place} {with:02X}"));
+    }
+
+    /// Columns violated in one container or in two, one after the other: by a
+    /// byte of the payload, or by B3, which shows twice.
+    fn columns(&mut self) {
+        let agreed = Pointer::Normal(self.path.units.offset);
+        if self.state() != agreed {
+            self.agree();
+            self.good(4);
+        }
+        for _ in 0..self.among(2, 4) {
+            let (with, other) = (self.bits(), self.bits());
+            let hits = self.of(&[(true, with, 0), (true, with, 0), (false, with, 0), (false, with, with), (false, with, other), (false, with, other)]);
+            let (b3, first, then) = hits;
+            for with in [first, then] {
+                self.source();
+                if with != 0 {
+                    self.hit(b3, with);
+                }
+                self.say("sink");
+            }
+            let n = self.among(1, 2);
+            self.good(n);
+        }
+    }
+
+    /// Two containers that end in one unit, each with columns of its own, or the
+    /// one alone, or neither.
+    fn columns_of_two(&mut self) {
+        self.say("fresh");
+        self.agree();
+        self.good(3);
+        for _ in 0..2 {
+            self.say("src i");
+            self.say("sink");
+            let (one, other) = (self.bits(), self.bits());
+            // a byte shows in the container behind its own
+            let (first, second) = self.of(&[(one, 0), (one, 0), (0, one), (0, one), (one, other), (one, other), (one, one), (0, 0)]);
+            for with in [0, first, second] {
+                self.source();
+                if with != 0 {
+                    self.hit(false, with);
+                }
+                self.say("sink");
+            }
+            self.say("src d");
+            self.say("sink");
+            self.good(3);
+        }
+    }
+
     /// The place in its message of the J1 that the next unit brings, where
     /// source and sink agree.
     fn coming(&self) -> usize {
@@ -1619,7 +1682,7 @@ impl Script {
     }
 }
 
-const EPISODES: [fn(&mut Script); 34] = [
+const EPISODES: [fn(&mut Script); 36] = [
     Script::row,
     Script::row,
     Script::row,
@@ -1645,6 +1708,8 @@ const EPISODES: [fn(&mut Script); 34] = [
     Script::sent,
     Script::refused_source,
     Script::damage,
+    Script::columns,
+    Script::columns_of_two,
     Script::messages,
     Script::cleared,
     Script::cleared,

@@ -8,7 +8,7 @@ behind a line `# the run`; units are counted from there. The table below says of
 hypotheses of crates/settles/specs/Demand.antt it drops, as read from the script itself, which
 units end unsettled, and what is seen from the 67th unit on: units whose containers are not the
 ones that the source says ended since the sink was fed last (containers are made here once more,
-after docs/BENCH.md, and compared by their FNV), violations, defects, calls that are refused.
+after docs/BENCH.md, and compared by their FNV), violated columns, defects, calls that are refused.
 Nothing else may break. A run that drops nothing must be as the statement says, one that drops
 something must break it. The printed total must be the number of settled=0 lines since `fresh`.
 docs/SETTLING.md shows the last two units of the worst run.
@@ -21,7 +21,7 @@ import re
 import sys
 
 sys.dont_write_bytecode = True  # no folder beside the tests
-from playing import play, read_line, refused_at_once, trace_of, trace_refused
+from playing import containers_of, play, read_line, refused_at_once, trace_of, trace_refused
 
 ROOT = os.path.dirname(os.path.dirname(os.path.abspath(__file__)))
 FOLDER = os.path.join(ROOT, "examples", "settling")
@@ -35,15 +35,15 @@ def all_of(first, last):
     return range(first, last + 1)
 
 
-def run(broken, units, unsettled=(), wrong=(), violations=None, defects=None, refused=(), handed=None):
-    """`broken`: the hypotheses dropped. `units`: how often the sink is asked. The rest as above; violations and
-    defects by unit, from the 67th on; `refused`: what is printed, in order; `handed`: the numbers of the containers
+def run(broken, units, unsettled=(), wrong=(), columns=None, defects=None, refused=(), handed=None):
+    """`broken`: the hypotheses dropped. `units`: how often the sink is asked. The rest as above; the columns of a unit's
+    containers, and defects, by unit, from the 67th on; `refused`: what is printed, in order; `handed`: the numbers of the containers
     that some units hand back, from 0 since `fresh`, None being one that was not sent."""
     return {"broken": set(broken), "units": units, "unsettled": set(unsettled), "wrong": set(wrong),
-            "violations": violations, "defects": defects or {}, "refused": list(refused), "handed": handed or {}}
+            "columns": columns, "defects": defects or {}, "refused": list(refused), "handed": handed or {}}
 
 
-# Where `violations` is None they are whatever the payload makes them, in units that are wrong or follow one.
+# Where `columns` is None they are whatever the payload makes them, in units that are wrong or follow one.
 TABLE = {
     "worst": [run([], 67, all_of(1, 66), handed={3: [], 4: [17], 9: [22], 12: [25], 13: [], 14: [26], 20: [32], 67: [79]})],
     "under_way": [run([], 67, all_of(1, 66), handed={3: [], 4: [17], 13: [], 67: [79]})],
@@ -51,21 +51,21 @@ TABLE = {
                              defects=dict.fromkeys(all_of(67, 300), "dTIM"))],
     "late_lock": [run(["quiet"], 70, all_of(1, 69), defects=dict.fromkeys(all_of(67, 69), "dTIM"),
                       handed={6: [], 7: [17], 13: [], 70: [79]})],
-    "too_close": [run(["apart"], 71, all_of(1, 63), wrong=[70], violations={71: 5}, refused=["unit refused 7"],
+    "too_close": [run(["apart"], 71, all_of(1, 63), wrong=[70], columns={71: ["4F"]}, refused=["unit refused 7"],
                       handed={67: [], 68: [66], 69: [67], 70: [None], 71: [68]})],
     "other_label": [run(["label"], 80, all_of(1, 80), defects=dict.fromkeys(all_of(67, 80), "dPLM"))],
     "other_trace": [run(["trace"], 80, all_of(1, 80), defects=dict.fromkeys(all_of(67, 80), "dTIM"))],
     "remote_defect": [run(["remote"], 80, all_of(1, 80), defects=dict.fromkeys(all_of(67, 80), "dRDI"))],
     "settings_changed": [run(["settings"], 74, [*all_of(1, 63), *all_of(67, 71)], defects=dict.fromkeys(all_of(67, 71), "dPLM"))],
-    "buffers_not_kept": [run(["kept"], 68, all_of(1, 63), wrong=[67], violations={67: 3, 68: 2}, handed={66: [65], 67: [None], 68: [67]})],
+    "buffers_not_kept": [run(["kept"], 68, all_of(1, 63), wrong=[67], columns={67: ["64"], 68: ["28"]}, handed={66: [65], 67: [None], 68: [67]})],
     "wrong_lengths": [run(["lengths"], 1, refused=["refused 3"])] * 2,
     "refused_label": [run(["label-fine"], 1, refused=["container refused 4", "refused 4"])] * 2,
     "refused_trace": [run(["trace-fine"], 1, refused=[f"container refused {said}", f"refused {said}"]) for said in ("5 15", "20 15", "21")],
     "refused_violations": [run(["violations"], 0, refused=["container refused 6"])],
-    "damaged_byte": [run(["line"], 68, all_of(1, 63), wrong=[67], violations={68: 1}, handed={66: [65], 67: [None], 68: [67]})],
+    "damaged_byte": [run(["line"], 68, all_of(1, 63), wrong=[67], columns={68: ["01"]}, handed={66: [65], 67: [None], 68: [67]})],
     "cut_unit": [run(["line"], 1, refused=["refused 1"])],
-    "lost_unit": [run(["successive"], 67, all_of(1, 63), wrong=[67], violations={67: 1}, handed={66: [65], 67: [67]})],
-    "repeated_unit": [run(["successive"], 69, all_of(1, 63), wrong=[68], violations={68: 1}, handed={67: [66], 68: [66], 69: [67]})],
+    "lost_unit": [run(["successive"], 67, all_of(1, 63), wrong=[67], columns={67: ["40"]}, handed={66: [65], 67: [67]})],
+    "repeated_unit": [run(["successive"], 69, all_of(1, 63), wrong=[68], columns={68: ["40"]}, handed={67: [66], 68: [66], 69: [67]})],
     "lost_units": [run(["successive"], 94, all_of(1, 94), defects=dict.fromkeys(all_of(67, 94), "dTIM"), handed={47: [46], 48: [48]})],
 }
 
@@ -119,7 +119,7 @@ class Sender:
             self.number[self.queue[-1]] = self.seed - 1
 
 
-SINK = re.compile(r"ok st=\w+ off=[-\d]+ held=\d+ ended=(\d)((?: c=\S+)*) ssf=\d tsf=\d ais=\d rdi=\d d=([\w,]+|-) "
+SINK = re.compile(r"ok st=\w+ off=[-\d]+ held=\d+ ended=\d(?: c=\S+)* ssf=\d tsf=\d ais=\d rdi=\d d=([\w,]+|-) "
                   r"cause=(?:[\w,]+|-) settled=([01]) total=(\d+) hb=\w{8} db=\w{8}")
 UNIT = re.compile(r"unit ended=(\d) word=\w{4} fnv=\w{8} off=\d+")
 
@@ -132,7 +132,7 @@ class Seen:
         self.units = self.sent = 0
         self.lines = [line]  # that of the run, and of each unit's `sink`
         self.last_adjusted = None
-        self.unsettled, self.wrong, self.violations, self.defects, self.refused, self.handed = set(), set(), {}, {}, [], {}
+        self.unsettled, self.wrong, self.columns, self.defects, self.refused, self.handed = set(), set(), {}, {}, [], {}
 
 
 def settings_dropped(tx, rx):
@@ -238,24 +238,21 @@ def look(script, printed, fault):
         if not sink:
             fault(number, f"not a sink's line: {answer}")
             continue
-        ended, containers, defects, settled, printed_total = sink.groups()
-        containers = [part.split(",") for part in containers.split(" c=")[1:]]
+        defects, settled, printed_total = sink.groups()
+        containers = containers_of(answer, lambda what, number=number: fault(number, what))
         total += settled == "0"
         if total != int(printed_total):
             fault(number, f"{total} units ended unsettled, the total printed is {printed_total}")
             total = int(printed_total)
-        if len(containers) != int(ended):
-            fault(number, f"ended={ended} and {len(containers)} containers")
         if seen:
-            seen.handed[seen.units] = [sender.number.get(part[1]) for part in containers]
+            seen.handed[seen.units] = [sender.number.get(one.fnv) for one in containers]
             if settled == "0":
                 seen.unsettled.add(seen.units)
             if seen.units > MOST:
-                if [part[1] for part in containers] != pending:
+                if [one.fnv for one in containers] != pending:
                     seen.wrong.add(seen.units)
-                violations = sum(int(part[2][2:]) for part in containers)
-                if violations:
-                    seen.violations[seen.units] = violations
+                if any(one.columns for one in containers):
+                    seen.columns[seen.units] = [f"{one.columns:02X}" for one in containers]
                 if defects != PLAIN:
                     seen.defects[seen.units] = defects
         pending = []
@@ -297,17 +294,17 @@ def line_of(here, there, seen):
 def compare(expected, seen, fault):
     for key, what in (("broken", "hypotheses dropped"), ("units", "units fed"), ("unsettled", "unsettled units"),
                       ("wrong", "units from the 67th on that hand back other containers"),
-                      ("violations", "violations from the 67th on"), ("defects", "defects from the 67th on"),
+                      ("columns", "violated columns from the 67th on"), ("defects", "defects from the 67th on"),
                       ("refused", "refused"), ("handed", "containers handed back")):
         here, there = getattr(seen, key), expected[key]
-        if key == "violations" and there is None:
+        if key == "columns" and there is None:
             # any, but only in a wrong unit or the one behind it
             there = {unit: here[unit] for unit in here if unit in seen.wrong or unit - 1 in seen.wrong}
         if key == "handed":
             here = {unit: here.get(unit) for unit in there}
         if here != there:
             fault(line_of(here, there, seen), f"{what}: {short(here)}; the table says {short(there)}")
-    breaks = len(seen.unsettled) > MOST or seen.wrong or seen.violations or seen.defects or seen.refused
+    breaks = len(seen.unsettled) > MOST or seen.wrong or seen.columns or seen.defects or seen.refused
     if not seen.broken and breaks:
         fault(seen.lines[0], "no hypothesis is dropped, and yet the statement fails")
     if seen.broken and not breaks:

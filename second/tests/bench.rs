@@ -396,6 +396,41 @@ fn runs() {
 }
 
 #[test]
+fn columns_are_printed_where_there_are_some() {
+    /// The containers of the unit that was fed last, without their sums.
+    fn last(script: &str) -> Vec<String> {
+        let printed = ran(script);
+        let line = printed.lines().last().unwrap();
+        let those = line.split(' ').filter_map(|word| word.strip_prefix("c="));
+        those
+            .map(|one| {
+                let mut parts: Vec<&str> = one.split(',').collect();
+                parts.remove(1);
+                parts.join(",")
+            })
+            .collect()
+    }
+    // At offset 0 place 100 has a byte of the payload, 270 has B3.
+    let hit = |place: usize, with: u8| format!("run 4\nsrc -\nxor {place} {with:02X}\nsink\n");
+    for with in 1..=255u8 {
+        let some = format!("U@9,v={},p={with:02X},fe=0", with.count_ones());
+        assert_eq!(last(&hit(100, with)), ["U@9,v=0,fe=0"]);
+        assert_eq!(last(&format!("{}run 1\n", hit(100, with))), [some.clone()]);
+        assert_eq!(last(&format!("{}run 2\n", hit(100, with))), ["U@9,v=0,fe=0"]);
+        assert_eq!(last(&hit(270, with)), [some.clone()]);
+        assert_eq!(last(&format!("{}run 1\n", hit(270, with))), [some]);
+        assert_eq!(last(&format!("{}run 2\n", hit(270, with))), ["U@9,v=0,fe=0"]);
+    }
+    // Two that end in one unit, and none with no last parity.
+    let two = |first: &str, second: &str| format!("run 3\nsrc i\nsink\nrun 1\nsrc -\n{first}sink\nsrc -\n{second}sink\nsrc d\nsink\n");
+    assert_eq!(last(&two("", "")), ["D@0,v=0,fe=0", "U@9,v=0,fe=0"]);
+    assert_eq!(last(&two("xor 400 0C\n", "")), ["D@0,v=2,p=0C,fe=0", "U@9,v=0,fe=0"]);
+    assert_eq!(last(&two("", "xor 400 FF\n")), ["D@0,v=0,fe=0", "U@9,v=8,p=FF,fe=0"]);
+    assert_eq!(last(&two("xor 400 80\n", "xor 400 01\n")), ["D@0,v=1,p=80,fe=0", "U@9,v=1,p=01,fe=0"]);
+    assert_eq!(last("run 4\nsrc -\nword 9800\nxor 270 3C\nsink\n"), ["U@9,v=0,fe=0"]);
+}
+
+#[test]
 fn names_of_defects_and_causes() {
     assert_eq!(names(&DEFECTS, &[false; 4]), "-");
     assert_eq!(names(&DEFECTS, &[true; 4]), "dUNEQ,dTIM,dPLM,dRDI");

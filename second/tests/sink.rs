@@ -197,6 +197,42 @@ fn label_and_defects_by_five(shape: Shape) {
     assert_eq!(feed(shape, &mut s, &expected, 0, 0x12, 0x90).ended[0].returned, 0);
 }
 
+over_both!(columns_of_one_container_after_the_other);
+fn columns_of_one_container_after_the_other(shape: Shape) {
+    let b3 = shape.columns;
+    let feed = |s: &mut Sink, word: u16, damaged: &[(usize, u8)]| {
+        let mut unit = vec![0; shape.unit()];
+        [unit[0], unit[shape.step]] = word.to_be_bytes();
+        for (place, with) in damaged {
+            unit[shape.head() + place] ^= with;
+        }
+        let (mut held, mut done) = (vec![0; shape.container()], vec![0; shape.container()]);
+        let (after, answer) = sink(shape, s, &expects(&padded(b"A")), &unit, &mut held, &mut done, &mut quiet()).unwrap();
+        *s = after;
+        answer.ended.iter().map(|one| (one.columns, one.violations())).collect::<Vec<_>>()
+    };
+    let (plain, new_data) = (0x6800, 0x9800);
+    let mut s = at_0(0);
+    // None with no last parity, whatever B3 is; then that B3 is missed.
+    assert_eq!(feed(&mut s, plain, &[(b3, 0xA5)]), [(0x00, 0)]);
+    assert_eq!(feed(&mut s, plain, &[]), [(0xA5, 4)]);
+    assert_eq!(feed(&mut s, plain, &[]), [(0x00, 0)]);
+    // Another byte shows in the next alone, B3 in its own container and the next.
+    for column in 1..=8 {
+        let bit = (0x100u16 >> column) as u8;
+        assert_eq!(feed(&mut s, plain, &[(b3 + 5, bit)]), [(0x00, 0)]);
+        assert_eq!(feed(&mut s, plain, &[(b3, bit), (7, bit)]), [(0x00, 0)]);
+        assert_eq!(feed(&mut s, plain, &[(b3, bit)]), [(bit, 1)]);
+        assert_eq!(feed(&mut s, plain, &[]), [(bit, 1)]);
+        assert_eq!(feed(&mut s, plain, &[]), [(0x00, 0)]);
+    }
+    assert_eq!(feed(&mut s, plain, &[(b3, 0xFF)]), [(0xFF, 8)]);
+    assert_eq!(feed(&mut s, plain, &[(b3, 0xF0)]), [(0x0F, 4)]);
+    // New data forgets.
+    assert_eq!(feed(&mut s, new_data, &[(b3, 0x33)]), [(0x00, 0)]);
+    assert_eq!(feed(&mut s, plain, &[]), [(0x33, 4)]);
+}
+
 over_both!(messages_and_the_count_to_48);
 fn messages_and_the_count_to_48(shape: Shape) {
     let expected = expects(&padded(b"03E5"));

@@ -17,6 +17,20 @@ fn parity_is_the_exclusive_or() {
 }
 
 #[test]
+fn columns_are_those_in_which_b3_and_the_last_parity_differ() {
+    for b3 in 0..=255 {
+        assert_eq!(columns(b3, None), 0x00);
+        for last in 0..=255 {
+            // Column 1 is sent first.
+            let differ: Vec<u8> = (1..=8).filter(|column| (b3 >> (8 - column)) % 2 != (last >> (8 - column)) % 2).collect();
+            let columns = columns(b3, Some(last));
+            assert_eq!((1..=8).filter(|column| columns & (0x100u16 >> column) as u8 != 0).collect::<Vec<u8>>(), differ);
+            assert_eq!(usize::from(violations(columns)), differ.len());
+        }
+    }
+}
+
+#[test]
 fn the_table_of_refused_traces() {
     for (trace, refusal) in refused_traces() {
         assert_eq!(trace_fault(&trace), Some(refusal));
