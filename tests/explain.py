@@ -29,7 +29,7 @@ ROOT = os.path.dirname(os.path.dirname(os.path.abspath(__file__)))
 sys.path.insert(0, os.path.join(ROOT, "tools"))
 import explain
 import script as scripts
-from playing import play, read_line, refused_at_once, run, trace_of
+from playing import containers_of, play, read_line, refused_at_once, run, trace_of
 
 EXPLAIN, DESK = os.path.join(ROOT, "tools", "explain.py"), os.path.join(ROOT, "tools", "desk")
 # The names on a tester, and the orders of refusals, written down once more.
@@ -153,18 +153,18 @@ def look_at_pages(refusals_page, glossary, header, card, fault):
 class Unit:
     """A printed `ok` line, read here once more."""
 
-    def __init__(self, text):
+    def __init__(self, text, fault):
         fields = dict(each.split("=", 1) for each in text.split(" ")[1:] if not each.startswith("c="))
-        containers = re.findall(r" c=[DU]@\d+,[0-9A-F]{8},v=(\d+),(?:p=([0-9A-F]{2}),)?fe=(\d+)", text)
+        containers = containers_of(text, fault)
         self.state, self.offset, self.ended = fields["st"], fields["off"], int(fields["ended"])
-        self.violations, self.returned = (sum(int(each[k]) for each in containers) for k in (0, 2))
-        self.columns = [byte for _, byte, _ in containers]  # of each container the violated ones, as printed
+        self.violations, self.returned = sum(each.violations for each in containers), sum(each.returned for each in containers)
+        self.columns = [each.columns for each in containers]  # of each container the violated bit columns, as a byte
         self.ssf, self.ais, self.rdi, self.settled = (fields[name] == "1" for name in ("ssf", "ais", "rdi", "settled"))
         self.total = int(fields["total"])
         self.defects, self.causes = ([] if fields[name] == "-" else fields[name].split(",") for name in ("d", "cause"))
 
 
-NOTHING_BEFORE = Unit("ok st=lost off=- held=0 ended=0 ssf=0 tsf=0 ais=0 rdi=0 d=- cause=- settled=0 total=0")
+NOTHING_BEFORE = Unit("ok st=lost off=- held=0 ended=0 ssf=0 tsf=0 ais=0 rdi=0 d=- cause=- settled=0 total=0", print)
 HEAD = re.compile(r"(units?) (\d+)(?: (and|to) (\d+))?(, the same line again|, one line fed (?:twice|\d+ times))?: (.*)")
 REFUSED = re.compile(r"(container|unit|tx|rx|payload|catalogue|lookup|listing|import|export|sink) refused (\d+)"
                      r"((?: in (?:record|line) \d+)?(?: at character \d+)?(?:, as in (?:record|line) \d+)?)(?:, (\d+) times)?: (.*)")
@@ -186,8 +186,8 @@ def columns_said(text):
         columns = numbers_in(numbers)
         if columns != sorted(set(columns)) or not set(columns) <= set(range(1, 9)) or (many == "columns") != (len(columns) > 1) or whose in found:
             return text
-        found[whose] = f"{sum(2 ** (8 - column) for column in columns):02X}"
-    return [found[""]] if list(found) == [""] else [found.get(whose, "") for whose in ("first", "second")] if list(found) == sorted(found) and "" not in found else text
+        found[whose] = sum(2 ** (8 - column) for column in columns)
+    return [found[""]] if list(found) == [""] else [found.get(whose, 0) for whose in ("first", "second")] if list(found) == sorted(found) and "" not in found else text
 
 
 def number_of(word):
@@ -236,7 +236,7 @@ def sentence_faults(body, unit, before, many, seen):
     same("violations", number_of(found[1]) if found else 0, unit.violations)
     same("bit columns", columns_said(found[3]) if found else None, unit.columns if any(unit.columns) else None)
     if seen is not None:
-        same("again", bool(found and found[2]), unit.columns == [seen] != [""])
+        same("again", bool(found and found[2]), unit.columns == [seen] != [0])
     found = re.search(r"(\w+) violations? returned by the far end(?:, [^;]*)? \(HP-REI\)", body)
     same("returned", number_of(found[1]) if found else 0, unit.returned)
     # the pointer
@@ -495,13 +495,13 @@ def look_at_run(name, data, printed, told, refusals, fault):
     """The sentences of a run against its script and what was printed. Counts how much was looked at."""
     words = {number: wrong.replace("`", "") for number, (wrong, _, _) in refusals.items()}
     lines = data.decode("utf-8", errors="replace").removeprefix("\ufeff").removesuffix("\n").split("\n") if data else []
-    units = [Unit(line) for line in printed if line.startswith("ok ")]
+    units = [Unit(line, lambda what: fault(name, what)) for line in printed if line.startswith("ok ")]
     strange = {int(line[2:]) for line in printed if re.fullmatch(r"\? \d+", line)}
     # units, in order, each in one sentence; `fresh` forgets what was before
-    place, before, freshes, seen = 0, NOTHING_BEFORE, 0, ""
+    place, before, freshes, seen = 0, NOTHING_BEFORE, 0, 0
     for text in told:
         if text.startswith("fresh: "):
-            before, freshes, seen = NOTHING_BEFORE, freshes + 1, ""
+            before, freshes, seen = NOTHING_BEFORE, freshes + 1, 0
         found = HEAD.fullmatch(text)
         if not found:
             continue

@@ -31,10 +31,10 @@ sys.path.insert(0, os.path.join(ROOT, "tools"))
 import pcap
 import script as tools_script  # for timeline.picture_of alone: what is expected is read here
 import timeline
-from playing import play, read_line, refused_at_once, run, trace_of
+from playing import containers_of, play, read_line, refused_at_once, run, trace_of
 
 TIMELINE, PCAP = os.path.join(ROOT, "tools", "timeline.py"), os.path.join(ROOT, "tools", "pcap.py")
-KEPT = {"steps.svg": "examples/steps.bench", "worst.svg": "examples/settling/worst.bench"}
+KEPT = {"steps.svg": "examples/steps.bench", "worst.svg": "examples/settling/worst.bench", "stuck.svg": "lessons/19-one-stuck-line.bench"}
 OTHERS = ["crates.svg"]  # no run: tools/crates.py makes and compares it
 NAMES = "dUNEQ dTIM dPLM dRDI SSF TSF AIS RDI cAIS cLOP cSSF cUNEQ cTIM cRDI cPLM".split(" ")
 ON_TESTER = dict(zip(NAMES[8:], "AU-AIS AU-LOP HP-SSF HP-UNEQ HP-TIM HP-RDI HP-PLM".split(" ")))
@@ -179,6 +179,14 @@ src -
 """
 
 
+# Units in which two containers end: both have violations, then the first alone; and in narrow cells the second alone too, with all columns and none.
+TWO = """run 3\nsrc i\nsink\nrun 1\nsrc -\nxor 100 A0\nsink\nsrc -\nxor 100 07\nsink\nsrc d\nsink\nrun 3
+src i\nsink\nrun 1\nsrc -\nxor 100 81\nsink\nrun 1\nsrc d\nsink
+"""
+TWO_AND_MORE = TWO + """run 30\nsrc i\nsink\nrun 2\nsrc -\nxor 100 FE\nsink\nsrc d\nsink\nrun 30\nsrc -\nxor 100 FF\nsink\nrun 30\nsrc i\nsink\nrun 3\nsrc d\nsink
+"""
+
+
 def long_run(units):
     """Many units with something among them everywhere, so that it comes at the edges of bands too."""
     lines = ["# A long run", "# Not of the title", 'rx 01 "a" 15', 'tx 01 "a" 0 0']
@@ -193,6 +201,7 @@ def long_run(units):
 def scripts(folder):
     """Name and path of every script: those of examples and lessons, and some that are made here."""
     made = {"odd": ODD, "odd with one unit": "run 1\n", "odd and long": long_run(300), "odd and 26 units": long_run(17), "odd and refused": "rx 00 \"\" 0\n" * 90,
+            "odd and two": TWO, "odd and two, narrow": TWO_AND_MORE,
             "odd questions": f"check\nrx 12 \"a  b\" 15 # c\n? # d\n# \"e  f\"\ncat {RECORD}\n"}
     for name, text in made.items():
         with open(os.path.join(folder, f"{name}.bench"), "w", encoding="ascii") as file:
@@ -221,9 +230,9 @@ class Call:
         if self.refused is None:
             parts = [part.partition("=") for part in text.split(" ")[1:]]
             self.said = {key: value for key, _, value in parts if key != "c"}
-            ended = [dict(field.split("=") for field in value.split(",")[2:]) for key, _, value in parts if key == "c"]
-            self.violations, self.returned = (sum(int(container[name]) for container in ended) for name in ("v", "fe"))
-            self.columns = [container.get("p", "00") for container in ended] if self.violations else []  # of each container, as printed
+            ended = containers_of(text, lambda what: fault("what was printed", what))
+            self.violations, self.returned = sum(container.violations for container in ended), sum(container.returned for container in ended)
+            self.columns = [container.columns for container in ended] if self.violations else []  # of each container, as a byte
             actions = [name for name in NAMES[4:8] if self.said[name.lower()] == "1"]
             self.standing = [name for name in NAMES if name in self.said["d"].split(",") + actions + self.said["cause"].split(",")]
 
@@ -767,8 +776,8 @@ def bit_column_faults(picture, calls, left):
         piles = [[rect for rect in here if round(rect.x) == x] for x in sorted({round(rect.x) for rect in here})]
         drawn = ["".join({"violated": "1", "sound": "0"}.get(rect.classes, "?") for rect in pile) for pile in piles]
         expected = call.columns if call.unit else []
-        if drawn != [f"{int(byte, 16):08b}" for byte in expected]:
-            yield f"unit {call.unit}: the bit columns drawn are {drawn}, and those of its containers {expected}"
+        if drawn != [f"{byte:08b}" for byte in expected]:
+            yield f"unit {call.unit}: the bit columns drawn are {drawn}, and those of its containers {[f'{byte:08b}' for byte in expected]}"
             continue
         if any(one.x + one.width > other.x for one, other in zip(here[::8], here[8::8])):
             yield f"unit {call.unit}: the bit columns of two containers lie upon one another"
@@ -778,13 +787,14 @@ def bit_column_faults(picture, calls, left):
             level = [next((text.text for text in texts if text.classes == "pale" and abs(text.middle[1] - rect.middle[1]) <= 2), None) for rect in pile]
             if level != ["1", *[None] * 6, "8"] or [text.text for text in texts if text.bold] != ["bit columns"]:
                 yield f"unit {call.unit}: beside its bit columns stand {level} and {[text.text for text in texts if text.bold]}"
-        # the bytes below; in a narrow cell there may be no room for them
+        # the bytes below; in a narrow cell there is no room for them
         bytes_below = sorted((text for text in picture.texts if text.row == "columns" and cell.has(*text.middle)), key=lambda text: text.x)
         told = [text.text for text in bytes_below]
-        if told != [byte for byte in expected if byte != "00"] and (told or cell.width >= 60):
-            yield f"unit {call.unit}: the bytes of its bit columns are {told}, not {expected}"
+        printed = [f"{byte:02X}" for byte in expected]
+        if told != [text for text in printed if text != "00"] and (told or cell.width >= (60 if len(expected) > 1 else 18)):
+            yield f"unit {call.unit}: the bytes of its bit columns are {told}, not {printed}"
         for text in bytes_below:
-            above = [byte for byte, pile in zip(expected, piles) if pile[0].x - 6 <= text.middle[0] <= pile[0].x + pile[0].width + 6 and text.y > pile[-1].y]
+            above = [byte for byte, pile in zip(printed, piles) if pile[0].x - 6 <= text.middle[0] <= pile[0].x + pile[0].width + 6 and text.y > pile[-1].y]
             if text.text not in above:
                 yield f"unit {call.unit}: {text.text} stands below {above}"
 
@@ -893,8 +903,39 @@ def check_picture(name, path, data, printed, folder):
 # Damage, bad input, kept pictures
 # ---------------------------------------------------------------------------
 
+PILE = r'(?:<rect [^>]*data-row="columns"/>\n){8}<text [^>]*data-row="columns"[^>]*>'  # bit columns of a container, up to their byte
+
+
+def exchanged(found):
+    """Two piles of bit columns, each in the place of the other, with their bytes."""
+    places = sorted(set(re.findall(r' x="([^"]*)"', found[0])), key=float)
+    first, second = places[: len(places) // 2], places[len(places) // 2 :]
+    other = dict(zip(first + second, second + first))
+    return re.sub(r' x="([^"]*)"', lambda x: f' x="{other[x[1]]}"', found[0])
+
+
 # Edits of the pictures of these scripts, each of which must be found out. A shape is moved by so many cells.
 DAMAGE = {
+    "lessons/19-one-stuck-line.bench": [
+        ("another bit column", r'class="violated"( data-row="columns"/>\n<rect [^>]*)class="sound"', r'class="sound"\1class="violated"', None),
+        ("a bit column too many", r'class="sound" data-row="columns"', 'class="violated" data-row="columns"', None),
+        ("a bit column too few", r'class="violated" data-row="columns"', 'class="sound" data-row="columns"', None),
+        ("a bit column of another unit", r'class="violated" data-row="columns"/>', None, ("x", 1)),
+        ("a unit's bit columns left out", PILE + "20</text>\n", "", None),
+        ("bit columns where there are none", r'data-row="columns"/>', None, ("x", 2)),
+        ("the byte of other bit columns", r'(data-row="columns"[^>]*>)20<', r"\g<1>04<", None),
+        ("a byte left out", r'<text [^>]*data-row="columns"[^>]*>76</text>\n', "", None),
+        ("bit columns numbered from the other end", r'(<text class="pale"[^>]*>)1(</text>\n<text class="pale"[^>]*>)8<', r"\g<1>8\g<2>1<", None),
+        ("bit columns of another name", r">bit columns<", ">violations<", None),
+        ("another number of violations", r'(class="violations" [^>]*/>\n<text [^>]*>)5<', r"\g<1>1<", None),
+    ],
+    "odd and two": [
+        ("bit columns of the other container", f"{PILE}A0</text>\n{PILE}07</text>\n", exchanged, None),
+        ("bit columns of the first container alone", f"({PILE}A0</text>\n){PILE}07</text>\n", r"\1", None),
+        ("bit columns of the second container alone", f"{PILE}A0</text>\n({PILE}07</text>\n)", r"\1", None),
+        ("no bit columns of a container without violations", r'(?:<rect [^>]*class="sound" data-row="columns"/>\n){8}', "", None),
+        ("bytes of the other container", r'(data-row="columns"[^>]*>)A0((?:.|\n)*?data-row="columns"[^>]*>)07<', r"\g<1>07\g<2>A0<", None),
+    ],
     "examples/steps.bench": [
         ("a bar shorter by a unit", r'class="defect" data-row="dTIM"/>', None, ("width", -1)),
         ("a bar later by a unit", r'class="action" data-row="SSF"/>', None, ("x", 1)),
