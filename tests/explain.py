@@ -1099,18 +1099,17 @@ def look_at_bytes(program, fault):
             clean = lines_of(play(program, f"{data}sink\nrun 4\n".encode(), "bytes"))
             told = told_of(text.encode(), printed)
             called = next(each for each in told if "turned over" in each).partition("): ")[2]
-            violations, returned = ([sum(unit_of(line, what) for line in lines if line.startswith("ok ")) for lines in (printed, clean)] for what in ("violations", "returned"))
+            units = [[Unit(line, lambda what: fault("bytes", what)) for line in lines if line.startswith("ok ")] for lines in (printed, clean)]
+            violations, returned = ([sum(getattr(unit, what) for unit in each) for each in units] for what in ("violations", "returned"))
             effect = violations[0] - violations[1]
+            if {byte for unit in units[0] for byte in unit.columns} - {0, 0x80}:
+                fault("bytes", f"`src {asked}` at offset {offset}, byte {place}: a bit of column 1 shows in another: {[unit.columns for unit in units[0]]}")
             expected = ("carries nothing" if not effect else "B3" if effect == 2 else "G1" if returned[0] != returned[1] else "")
             if expected and expected not in called or not expected and (re.search("nothing|B3|G1", called) or not called):
                 fault("bytes", f"`src {asked}` at offset {offset}, byte {place}: called `{called}`; {effect} violations, {returned[0] - returned[1]} more returned")
             by_place = next((name for row, name in enumerate("J1 B3 C2 G1 F2 H4 F3 K3 N1".split()) if columns[row] == place), "payload")
             if effect and not (by_place in called or place < 9):
                 fault("bytes", f"`src {asked}` at offset {offset}, byte {place}: called `{called}`, not {by_place}")
-
-
-def unit_of(line, what):
-    return getattr(Unit(line), what)
 
 
 def random_script(seed, lines):
@@ -1193,7 +1192,7 @@ def look_at_program(folder, program, lesson, data, printed, fault):
     spoiled = {
         "a line missing": b"\n".join(lines[:10] + lines[11:]), "cut": b"\n".join(lines[:20]) + b"\n", "a line twice": b"\n".join(lines[:7] + lines[6:]),
         "a line more": printed + b"ok\n", "nothing": b"", "bytes": bytes(range(256)) * 4, "a cause that is none": printed.replace(b"cause=cLOP", b"cause=LOP", 1),
-        "bits for names": printed.replace(b"d=- cause=cLOP,cSSF", b"d=0000 cause=0110000", 1), "another number": printed.replace(b"? 68", b"? 69").replace(b"ended=1 c", b"ended=2 c", 1),
+        "bits for names": printed.replace(b"d=- cause=cLOP,cSSF", b"d=0000 cause=0110000", 1), "another number": printed.replace(b"? 69", b"? 70").replace(b"ended=1 c", b"ended=2 c", 1),
         "another script's": b"cat ok 1 pairs=0\n",
     }
     for name, text in spoiled.items():
