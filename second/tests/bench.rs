@@ -427,7 +427,9 @@ fn columns_are_printed_where_there_are_some() {
     assert_eq!(last(&two("xor 400 0C\n", "")), ["D@0,v=2,p=0C,fe=0", "U@9,v=0,fe=0"]);
     assert_eq!(last(&two("", "xor 400 FF\n")), ["D@0,v=0,fe=0", "U@9,v=8,p=FF,fe=0"]);
     assert_eq!(last(&two("xor 400 80\n", "xor 400 01\n")), ["D@0,v=1,p=80,fe=0", "U@9,v=1,p=01,fe=0"]);
-    assert_eq!(last("run 4\nsrc -\nword 9800\nxor 270 3C\nsink\n"), ["U@9,v=0,fe=0"]);
+    for script in ["run 3\n", "run 2\nsrc -\nxor 270 3C\nsink\n", "run 4\nsrc -\nword 9800\nxor 270 3C\nsink\n"] {
+        assert_eq!(last(script), ["U@9,v=0,fe=0"]);
+    }
 }
 
 #[test]

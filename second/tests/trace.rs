@@ -1,5 +1,5 @@
-//! Parity, and the trace: its first fault, remainders, start bytes, good
-//! messages.
+//! Parity and its comparison, and the trace: its first fault, remainders, start
+//! bytes, good messages.
 
 use super::*;
 
