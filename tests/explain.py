@@ -4,8 +4,8 @@
     tests/explain.py PROGRAM [ARGS..]     PROGRAM plays a bench script from its standard input.
 
 Every script under lessons and examples is played, and so are random lines. What was printed is read here once more, and each sentence is
-held to it: every unit has exactly one; its causes, defects, actions, containers, violations, offsets and whether it settled are those of
-the printed line; every refusal has the words of docs/REFUSALS.md and the places that were printed, and of a refused character the byte that
+held to it: every unit has exactly one; its causes, defects, actions, containers, violations with their bit columns, offsets and whether it
+settled are those of the printed line; every refusal has the words of docs/REFUSALS.md and the places that were printed, and of a refused character the byte that
 the script's own line or catalogue has there; every check of a catalogue has its records and the pairs of traces that were compared; every
 import and export has its lines and circuits, and of a refused text the line that is named, with a reason that is true of it; every
 `? N` has its line; comments stand in their order. Each refusal that the bench can give is given by a script; 2 and 8, which it cannot give,
@@ -29,7 +29,7 @@ ROOT = os.path.dirname(os.path.dirname(os.path.abspath(__file__)))
 sys.path.insert(0, os.path.join(ROOT, "tools"))
 import explain
 import script as scripts
-from playing import play, read_line, refused_at_once, run, trace_of
+from playing import containers_of, play, read_line, refused_at_once, run, trace_of
 
 EXPLAIN, DESK = os.path.join(ROOT, "tools", "explain.py"), os.path.join(ROOT, "tools", "desk")
 # The names on a tester, and the orders of refusals, written down once more.
@@ -153,17 +153,18 @@ def look_at_pages(refusals_page, glossary, header, card, fault):
 class Unit:
     """A printed `ok` line, read here once more."""
 
-    def __init__(self, text):
+    def __init__(self, text, fault):
         fields = dict(each.split("=", 1) for each in text.split(" ")[1:] if not each.startswith("c="))
-        containers = re.findall(r" c=[DU]@\d+,[0-9A-F]{8},v=(\d+),(?:p=[0-9A-F]{2},)?fe=(\d+)", text)
+        containers = containers_of(text, fault)
         self.state, self.offset, self.ended = fields["st"], fields["off"], int(fields["ended"])
-        self.violations, self.returned = (sum(int(pair[k]) for pair in containers) for k in (0, 1))
+        self.violations, self.returned = sum(each.violations for each in containers), sum(each.returned for each in containers)
+        self.columns = [each.columns for each in containers]  # of each container the violated bit columns, as a byte
         self.ssf, self.ais, self.rdi, self.settled = (fields[name] == "1" for name in ("ssf", "ais", "rdi", "settled"))
         self.total = int(fields["total"])
         self.defects, self.causes = ([] if fields[name] == "-" else fields[name].split(",") for name in ("d", "cause"))
 
 
-NOTHING_BEFORE = Unit("ok st=lost off=- held=0 ended=0 ssf=0 tsf=0 ais=0 rdi=0 d=- cause=- settled=0 total=0")
+NOTHING_BEFORE = Unit("ok st=lost off=- held=0 ended=0 ssf=0 tsf=0 ais=0 rdi=0 d=- cause=- settled=0 total=0", print)
 HEAD = re.compile(r"(units?) (\d+)(?: (and|to) (\d+))?(, the same line again|, one line fed (?:twice|\d+ times))?: (.*)")
 REFUSED = re.compile(r"(container|unit|tx|rx|payload|catalogue|lookup|listing|import|export|sink) refused (\d+)"
                      r"((?: in (?:record|line) \d+)?(?: at character \d+)?(?:, as in (?:record|line) \d+)?)(?:, (\d+) times)?: (.*)")
@@ -173,12 +174,29 @@ GOOD_CATALOGUE = re.compile(r"cat: a good catalogue of (no|one|two|\d+) record(s
 COMPARED = re.compile(r"; (no \w+ [a-z ]*|(\d+) pairs? [a-z ]*)(?=$|\)$|\)\. )")
 
 
+# The bit columns of violations; of two containers it is said whose they are.
+COLUMNS = re.compile(r"in (columns?) (\d(?:, \d)*(?: and \d)?)(?: of the (first|second) container)?")
+VIOLATIONS = re.compile(rf"(\w+) parity violations?, (again )?({COLUMNS.pattern}(?: and {COLUMNS.pattern})?) \(HP-BIP\)")
+
+
+def columns_said(text):
+    """The bit columns that a text names, container by container, as bytes; the text where it does not name them as it should."""
+    found = {}
+    for many, numbers, whose in COLUMNS.findall(text):
+        columns = numbers_in(numbers)
+        if columns != sorted(set(columns)) or not set(columns) <= set(range(1, 9)) or (many == "columns") != (len(columns) > 1) or whose in found:
+            return text
+        found[whose] = sum(2 ** (8 - column) for column in columns)
+    return [found[""]] if list(found) == [""] else [found.get(whose, 0) for whose in ("first", "second")] if list(found) == sorted(found) and "" not in found else text
+
+
 def number_of(word):
     return NUMBERS[word] if word in NUMBERS else int(word)
 
 
-def sentence_faults(body, unit, before, many):
-    """What a sentence says of a unit that its printed line does not, or leaves out."""
+def sentence_faults(body, unit, before, many, seen):
+    """What a sentence says of a unit that its printed line does not, or leaves out. `seen`: the bit columns of the violations before, since `fresh`;
+    None where the sentence has begun with another unit."""
     wrong = []
 
     def same(what, said, printed):
@@ -214,10 +232,13 @@ def sentence_faults(body, unit, before, many):
         same("in many", ended.group(2) if ended else None, "each" if many and unit.ended else "ended")
     else:
         same("handed back", "nothing handed back" in body and not ended, True)
-    for name, pattern, printed in (("violations", r"(\w+) parity violations?(?:, [^;]*)? \(HP-BIP\)", unit.violations),
-                                   ("returned", r"(\w+) violations? returned by the far end(?:, [^;]*)? \(HP-REI\)", unit.returned)):
-        found = re.search(pattern, body)
-        same(name, number_of(found.group(1)) if found else 0, printed)
+    found = VIOLATIONS.search(body)
+    same("violations", number_of(found[1]) if found else 0, unit.violations)
+    same("bit columns", columns_said(found[3]) if found else None, unit.columns if any(unit.columns) else None)
+    if seen is not None:
+        same("again", bool(found and found[2]), unit.columns == [seen] != [0])
+    found = re.search(r"(\w+) violations? returned by the far end(?:, [^;]*)? \(HP-REI\)", body)
+    same("returned", number_of(found[1]) if found else 0, unit.returned)
     # the pointer
     moved = re.search(r"(?:^|; )(?:increment|decrement|new data,|three equal words,|offset) (\d+) to (\d+)", body)
     same("moved", moved.groups() if moved else None,
@@ -474,13 +495,13 @@ def look_at_run(name, data, printed, told, refusals, fault):
     """The sentences of a run against its script and what was printed. Counts how much was looked at."""
     words = {number: wrong.replace("`", "") for number, (wrong, _, _) in refusals.items()}
     lines = data.decode("utf-8", errors="replace").removeprefix("\ufeff").removesuffix("\n").split("\n") if data else []
-    units = [Unit(line) for line in printed if line.startswith("ok ")]
+    units = [Unit(line, lambda what: fault(name, what)) for line in printed if line.startswith("ok ")]
     strange = {int(line[2:]) for line in printed if re.fullmatch(r"\? \d+", line)}
     # units, in order, each in one sentence; `fresh` forgets what was before
-    place, before, freshes = 0, NOTHING_BEFORE, 0
+    place, before, freshes, seen = 0, NOTHING_BEFORE, 0, 0
     for text in told:
         if text.startswith("fresh: "):
-            before, freshes = NOTHING_BEFORE, freshes + 1
+            before, freshes, seen = NOTHING_BEFORE, freshes + 1, 0
         found = HEAD.fullmatch(text)
         if not found:
             continue
@@ -490,9 +511,9 @@ def look_at_run(name, data, printed, told, refusals, fault):
             return
         body = re.sub(r"^nothing (?:new )?was sent[^;]*; ", "", found[6])
         for unit in units[place:last]:
-            for each in sentence_faults(body, unit, before, last > first):
+            for each in sentence_faults(body, unit, before, last > first, seen if place + 1 == first else None):
                 fault(name, f"unit {place + 1}: {each}: {text[:160]}")
-            place, before = place + 1, unit
+            place, before, seen = place + 1, unit, next((byte for byte in reversed(unit.columns) if byte), seen)
             checked["units"] += 1
         checked["sentences"] += 1
     if place != len(units):
@@ -586,11 +607,11 @@ def look_at_script(name, data, program, refusals, fault):
 
 
 def look_at_brief(name, printed, told, brief, fault):
-    """The brief form has each defect that sets or clears at its unit, each move of the pointer, and little else."""
+    """The brief form has each defect that sets or clears at its unit, each move of the pointer, the bit columns of violations, and little else."""
     if any(len(text) > LONGEST_BRIEF for text in brief[1:]):
         fault(f"{name} in brief", f"too long: {max(brief[1:], key=len)}")
     step = r"(?:increment|decrement|new data,|three equal words,) (\d+ to \d+)"
-    for pattern, short in ((r"\((d[A-Z]+), [A-Z-]+\) sets", r"(d[A-Z]+) sets"), (r"\((d[A-Z]+)\) clears", r"(d[A-Z]+) clears"), (step, step)):
+    for pattern, short in ((r"\((d[A-Z]+), [A-Z-]+\) sets", r"(d[A-Z]+) sets"), (r"\((d[A-Z]+)\) clears", r"(d[A-Z]+) clears"), (step, step), (COLUMNS, COLUMNS)):
         for wanted, texts, other in ((pattern, told, short), (short, brief, pattern)):
             for text in texts:
                 head = HEAD.fullmatch(text)
@@ -743,10 +764,18 @@ COUNTED = {
     named_by(*range(511), 510): ("cat refused 13 512 511 pairs=130816", "; 130816 pairs of traces were compared). Ask"),
     named_by(*range(513)): ("cat refused 9 pairs=0", "(it has 10773 bytes; no trace was compared with another). The file"),
 }
-# lines that no bench prints: a place too few or too many, or one that no character has; pairs where none are counted, and a catalogue check without
+def damaged(container):
+    """A printed line with one container that has these fields."""
+    return f"ok st=normal off=0 held=0 ended=1 c=U@9,433335CD,{container} ssf=0 tsf=0 ais=0 rdi=0 d=- cause=- settled=1 total=63 hb=A718826F db=A718826F"
+
+
+# lines that no bench prints: a place too few or too many, or one that no character has; pairs where none are counted, and a catalogue check without;
+# bit columns that are not as many as the violations, or do not stand where they must
 NEVER = {
     'rx 12 "" 0\n': ("rx refused 15", "rx refused 16 1", "rx refused 21 1", "rx refused 5", "rx refused 5 0", "rx refused 20 16", "rx refused 20 2 7", "rx refused 4 1", "rx refused 21 pairs=0"),
-    "sink\n": ("refused 5", "refused 20 3 1", "refused 21 15", "refused 4 pairs=0"),
+    "sink\n": ("refused 5", "refused 20 3 1", "refused 21 15", "refused 4 pairs=0",
+               *(damaged(container) for container in ("v=3,p=03,fe=0", "v=3,p=0F,fe=0", "v=0,p=00,fe=0", "v=0,p=01,fe=0", "v=9,p=FF,fe=0", "v=1,p=1,fe=0", "v=2,p=0a,fe=0", "v=1,p=001,fe=0",
+                                                      "p=07,v=3,fe=0", "v=3,fe=0,p=07", "v=3,p=07,p=07,fe=0", "v=3,p=07", "p=07,fe=0", "v=3,p=,fe=0", "v=9,fe=0"))),
     f"cat {GOOD}\n": ("cat refused 15 1 pairs=0", "cat refused 18 513 pairs=0", "cat refused 5 1 pairs=0", "cat refused 20 1 pairs=0", "cat refused 21 pairs=0", "cat refused 21 1 1 pairs=0", "cat refused 20 1 16 pairs=0", "cat refused 4 pairs=0",
                       "cat refused 13 2 pairs=1", "cat refused 9 1 pairs=0", "cat ok 1 pairs=", "cat ok 1 pairs=-1", "cat ok 1 0", "cat ok 1 pairs=0 0", "cat ok 1 pairs=0 pairs=0", "cat ok pairs=0",
                       "cat pairs=0", "cat refused pairs=0", "cat refused 9 pairs=", "cat refused pairs=0 9", "cat refused 13 2 1 1"),
@@ -759,7 +788,8 @@ NEVER = {
                          "export refused 13 2", "export refused 12 1 pairs=0", "export ok ", "export ok 3", "export ok 0a", f"export ok {text_of(SEVEN)} 1", "export"),
 }
 # and lines that an earlier bench printed
-EARLIER = {f"cat {GOOD}\n": ("cat ok 1", "cat refused 9", "cat refused 13 2 1", "cat refused 20 1 3")}
+EARLIER = {f"cat {GOOD}\n": ("pairs=", "cat ok 1", "cat refused 9", "cat refused 13 2 1", "cat refused 20 1 3"),
+           "sink\n": ("p=", damaged("v=1,fe=0"), damaged("v=8,fe=8"))}
 # what the words must have beside those of the table, from the script's own bytes
 DETAILS = {
     f"cat {BAD[9]}\n": "(it has 22 bytes, 1 more than a whole number of records; no trace was compared with another). ",
@@ -820,6 +850,7 @@ DETAILS = {
     'rx FF "A" 3\nrun 2\n': "sink refused 4, 2 times: ",
     f"lookup 8 {GOOD}\n": "circuit 8",
 }
+AT_ONE = "run 3\nsrc i\nsink\nrun 3\n"  # at offset 1 byte 100 is one of the container that ends in the next unit; a decrement then ends two
 # other answers: a script, and what must be said
 ANSWERS = {
     f"cat {GOOD}{OTHER}\n": "cat: a good catalogue of two records; 1 pair of traces was compared",
@@ -879,6 +910,18 @@ ANSWERS = {
     "run 3\nsrc -\nword 0800\nsink\n": "unit 4: invalid word 0800 (NDF 0000), offset 0 stays; ",
     "run 3\nword 9800\nsink\nword 6AAA\nsink\n": "unit 5: invalid word 6AAA (increment too soon after the last adjustment or new data), offset 0 stays; ",
     "src i\nlen 3\nsrc i\nword 6800\n": "the pointer word is now 6800",  # a refused unit has made the line long again
+    # violations: their bit columns, of two containers whose they are, and whether they are those of violations before
+    "run 4\nsrc -\nxor 100 07\nsink\nrun 1\n": "; 3 parity violations, in columns 6, 7 and 8 (HP-BIP); ",
+    "run 4\nsrc -\nxor 100 80\nsink\nrun 1\n": "; one parity violation, in column 1 (HP-BIP); ",
+    "run 4\nsrc -\nxor 100 FF\nsink\nrun 1\n": "; 8 parity violations, in columns 1, 2, 3, 4, 5, 6, 7 and 8 (HP-BIP); ",
+    "run 4\nsrc -\nxor 100 20\nsink\nrun 2\nsrc -\nxor 200 20\nsink\nrun 1\n": "; one parity violation, again in column 3 (HP-BIP); ",
+    "run 4\nsrc -\nxor 270 01\nsink\nrun 1\n": "units 5 and 6: plain; one container each; one parity violation, in column 8 (HP-BIP) each; ",
+    f"{AT_ONE}src -\nxor 100 A0\nsink\nrun 1\nsrc d\nsink\n": "; two parity violations, in columns 1 and 3 of the first container (HP-BIP); ",
+    f"{AT_ONE}run 1\nsrc -\nxor 100 A0\nsink\nsrc d\nsink\n": "; two parity violations, in columns 1 and 3 of the second container (HP-BIP); ",
+    f"{AT_ONE}src -\nxor 100 A0\nsink\nsrc -\nxor 100 07\nsink\nsrc d\nsink\n":
+        "; 5 parity violations, in columns 1 and 3 of the first container and in columns 6, 7 and 8 of the second container (HP-BIP); ",
+    f"{AT_ONE}src -\nxor 100 A0\nsink\nsrc -\nxor 100 07\nsink\nsrc d\nxor 200 07\nsink\nrun 1\n": "; 3 parity violations, again in columns 6, 7 and 8 (HP-BIP); ",
+    "run 4\nsrc -\nxor 100 20\nsink\nrun 1\nfresh\nrun 4\nsrc -\nxor 100 20\nsink\nrun 1\n": "; one parity violation, in column 3 (HP-BIP); ",  # both times
     "run 80\n": "In all: 80 units, 17 settled and 63 not; settled from unit 64 on",
     'tx 00 "" 0 0\nrun 3\n': "units 1 to 3, one line fed 3 times: nothing new was sent (container refused 4); ",
     'tx 12 03E5 0 0\n': 'has no quotes; as a name it is written "03E5"',
@@ -929,12 +972,12 @@ def look_at_refusals(program, refusals, fault):
                 if "which the bench does not print" not in str(wrong) or "earlier" in str(wrong):
                     fault("refusals", f"`{line}`: {wrong}")
     # nor is a line that an earlier bench printed told, and it is said what to do
-    for text, lines in EARLIER.items():
+    for text, (missing, *lines) in EARLIER.items():
         for line in lines:
             try:
                 fault("an earlier bench", f"`{line}` is told: {told_of(text.encode(), [line])}")
             except scripts.Fault as wrong:
-                if "which the bench does not print (an earlier bench printed this, without pairs=; play the script again)" not in str(wrong):
+                if f"which the bench does not print (an earlier bench printed this, without {missing}; play the script again)" not in str(wrong):
                     fault("an earlier bench", f"`{line}`: {wrong}")
     for data, (wanted, said) in COUNTED.items():
         name = f"pairs: {wanted}"
@@ -1056,18 +1099,17 @@ def look_at_bytes(program, fault):
             clean = lines_of(play(program, f"{data}sink\nrun 4\n".encode(), "bytes"))
             told = told_of(text.encode(), printed)
             called = next(each for each in told if "turned over" in each).partition("): ")[2]
-            violations, returned = ([sum(unit_of(line, what) for line in lines if line.startswith("ok ")) for lines in (printed, clean)] for what in ("violations", "returned"))
+            units = [[Unit(line, lambda what: fault("bytes", what)) for line in lines if line.startswith("ok ")] for lines in (printed, clean)]
+            violations, returned = ([sum(getattr(unit, what) for unit in each) for each in units] for what in ("violations", "returned"))
             effect = violations[0] - violations[1]
+            if {byte for unit in units[0] for byte in unit.columns} - {0, 0x80}:
+                fault("bytes", f"`src {asked}` at offset {offset}, byte {place}: a bit of column 1 shows in another: {[unit.columns for unit in units[0]]}")
             expected = ("carries nothing" if not effect else "B3" if effect == 2 else "G1" if returned[0] != returned[1] else "")
             if expected and expected not in called or not expected and (re.search("nothing|B3|G1", called) or not called):
                 fault("bytes", f"`src {asked}` at offset {offset}, byte {place}: called `{called}`; {effect} violations, {returned[0] - returned[1]} more returned")
             by_place = next((name for row, name in enumerate("J1 B3 C2 G1 F2 H4 F3 K3 N1".split()) if columns[row] == place), "payload")
             if effect and not (by_place in called or place < 9):
                 fault("bytes", f"`src {asked}` at offset {offset}, byte {place}: called `{called}`, not {by_place}")
-
-
-def unit_of(line, what):
-    return getattr(Unit(line), what)
 
 
 def random_script(seed, lines):
@@ -1150,7 +1192,7 @@ def look_at_program(folder, program, lesson, data, printed, fault):
     spoiled = {
         "a line missing": b"\n".join(lines[:10] + lines[11:]), "cut": b"\n".join(lines[:20]) + b"\n", "a line twice": b"\n".join(lines[:7] + lines[6:]),
         "a line more": printed + b"ok\n", "nothing": b"", "bytes": bytes(range(256)) * 4, "a cause that is none": printed.replace(b"cause=cLOP", b"cause=LOP", 1),
-        "bits for names": printed.replace(b"d=- cause=cLOP,cSSF", b"d=0000 cause=0110000", 1), "another number": printed.replace(b"? 68", b"? 69").replace(b"ended=1 c", b"ended=2 c", 1),
+        "bits for names": printed.replace(b"d=- cause=cLOP,cSSF", b"d=0000 cause=0110000", 1), "another number": printed.replace(b"? 69", b"? 70").replace(b"ended=1 c", b"ended=2 c", 1),
         "another script's": b"cat ok 1 pairs=0\n",
     }
     for name, text in spoiled.items():
@@ -1262,7 +1304,7 @@ def look_at_desk(folder, program, everything, lesson, data, fault):
             fault("desk", f"help has no {name}")
     joined = " ".join(done.split())
     for text in ["st=", "off=", "held=", "ended=", "c=", "ssf=", "tsf=", "ais=", "rdi=", "d=", "cause=", "settled=", "total=", "hb=", "db=",
-                 "refusal 4: label 00 means", "refusal 5: a trace character is below 20, which is the space. Look", "refusal 20: a trace character is above 7E, which is ~. Look",
+                 "p= their bit columns, a byte (80 is column 1, 01 is column 8)", "refusal 4: label 00 means", "refusal 5: a trace character is below 20, which is the space. Look", "refusal 20: a trace character is above 7E, which is ~. Look",
                  "refusal 21: all fifteen characters of the trace are spaces, which nobody means. The name is missing", "refusal 16: a trace is not in double quotes. Do not just put quotes around it", "There is no help on 19",
                  'import HEX: the catalogue of a text whose bytes these are; a line of it is 7,12,"03E5",15 and an LF (0A)',
                  "cTIM (HP-TIM): trace mismatch: ", "cat HEX: the check of a catalogue of these bytes; pairs= is how many pairs of traces it compared", "There is no help on nothing"]:
@@ -1314,7 +1356,8 @@ def look_at_checks(program, pages, refusals, fault):
         if not found:
             fault("these checks", f"not found: {name}")
 
-    base = b'rx 12 "03E5" 15\nrun 70\ntx 12 "03E6" 2 0\nrun 60\nones\nsink\nsink\nsink\nsnk\nrun 9\nsrc i\nsink\nrun 4\nsrc d\nxor 300 07\nsink\nrun 3\nfresh\nrx 00 "" 0 # ends\nrun 2\n'
+    base = b'rx 12 "03E5" 15\nrun 70\ntx 12 "03E6" 2 0\nrun 60\nones\nsink\nsink\nsink\nsnk\nrun 9\nsrc i\nsink\nrun 4\nsrc d\nxor 300 07\nsink\nrun 3\nsrc -\nxor 400 20\nsink\nrun 2\nsrc -\nxor 500 20\nsink\nrun 2\n'
+    base += b'src i\nsink\nrun 3\nsrc -\nxor 100 A0\nsink\nsrc -\nxor 100 11\nsink\nsrc d\nsink\nfresh\nrx 00 "" 0 # ends\nrun 2\n'
     base += f'rx 12 {TAB} 15\nsink\ntx 12 {hexed("NORD-S", 0xDC, "D")} 0 0\nsrc -\nrx 12 "" 15\nsink\ncat {BAD[5]}\ncat {BAD[20]}\nlookup 7 {BAD[20]}\nlist {BAD[20]}\ncat {BAD[21]}\n'.encode()
     base += f"import {text_of(SEVEN, EIGHT)}\nimport {text_of(SEVEN, SIXTEEN)}\nimport {text_of(list(MALFORMED)[0])}\nimport {TEXTS[20][0]}\nimport {TEXTS[13][0]}\n".encode()
     base += f"import {text_of(SEVEN, SEVEN.replace('03E5', 'N').replace('7', '8'))}\nexport {OTHER}{GOOD}\nexport {BAD[12]}\nimport\nimport {text_of(SEVEN) * 513}\n".encode()
@@ -1336,6 +1379,20 @@ def look_at_checks(program, pages, refusals, fault):
         "sets for stands": change("trace mismatch (dTIM) still stands", "trace mismatch (dTIM, HP-TIM) sets"), "another defect": change("(dTIM) clears", "(dPLM) clears"),
         "no AIS": change("AIS and RDI go on", "RDI goes on"), "containers": change("two containers ended", "one container ended"), "none for one": change("one container each", "no container ended"),
         "violations": change("parity violations", "no violations"), "another number returned": change("two violations returned by", "one violation returned by"),
+        # the bit columns of violations: which, in number and in words, whose, and whether they come again
+        "no bit columns": change(", in columns 6, 7 and 8 (HP-BIP)", " (HP-BIP)"), "another bit column": change("in columns 6, 7 and 8 (", "in columns 5, 7 and 8 ("),
+        "a bit column left out": change("in columns 6, 7 and 8 (", "in columns 6 and 8 ("), "a bit column too many": change("in columns 6, 7 and 8 (", "in columns 5, 6, 7 and 8 ("),
+        "bit columns from the other end": change("in columns 6, 7 and 8 (", "in columns 1, 2 and 3 ("), "bit columns from 0": change("in columns 6, 7 and 8 (", "in columns 5, 6 and 7 ("),
+        "bit columns in another order": change("in columns 6, 7 and 8 (", "in columns 8, 7 and 6 ("), "column for columns": change("in columns 6, 7", "in column 6, 7"),
+        "columns for column": change("in column 3 (", "in columns 3 ("), "again at first": change("violation, in column 3 (", "violation, again in column 3 ("),
+        "again left out": change("again in column 3", "in column 3"), "again in another": change("again in column 3", "again in column 4"),
+        "again in others": change("violations, in columns 6, 7 and 8", "violations, again in columns 6, 7 and 8"),
+        "whose bit columns": change("in columns 1 and 3 of the first container and in columns 4 and 8 of the second", "in columns 1 and 3 of the second container and in columns 4 and 8 of the first"),
+        "each has the other's": change("in columns 1 and 3 of the first container and in columns 4 and 8 of the second", "in columns 4 and 8 of the first container and in columns 1 and 3 of the second"),
+        "all are the first's": change("in columns 1 and 3 of the first container and in columns 4 and 8 of the second container", "in columns 1, 3, 4 and 8 of the first container"),
+        "nobody's": change("in columns 1 and 3 of the first container and in columns 4 and 8 of the second container", "in columns 1, 3, 4 and 8"),
+        "the first's alone": change(" and in columns 4 and 8 of the second container", ""), "the second's alone": change("in columns 1 and 3 of the first container and ", ""),
+        "of two where one ended": change("in column 3 (", "in column 3 of the first container ("),
         "an offset": change("found at offset 0", "found at offset 1"), "up for down": change("decrement 1 to 0", "increment 1 to 0"), "another step": change("increment 0 to 1", "increment 0 to 2"),
         "settled": change("; settled", "; not settled"), "not settled": change("; not settled", "; settled"), "how many did not": change("63 units did not", "64 units did not"),
         "a unit's number": change("units 4 to ", "units 5 to "), "a unit twice": told + [text for text in told if text.startswith("unit 3")], "a unit left out": [text for text in told if not text.startswith("unit 3:")],
@@ -1397,6 +1454,7 @@ def look_at_checks(program, pages, refusals, fault):
         tried(name, lambda texts=texts: look_at_run("spoiled", base, printed, texts, refusals, note))
     # printed lines of another run, told as they stand, are not those of this one
     lines = [("cause=cTIM", "cause=cPLM"), ("d=dTIM", "d=dPLM"), ("settled=1", "settled=0"), ("ended=2 c=", "ended=1 c="), (" off=1 ", " off=2 "), ("v=3,", "v=4,"), ("fe=2", "fe=3"),
+             ("p=07", "p=0B"), ("p=07", "p=E0"), ("p=20", "p=10"), ("v=2,p=A0", "v=2,p=11"), ("v=2,p=11", "v=2,p=A0"), ("v=2,p=A0", "v=0"),
              ("st=alarm", "st=lost"), ("ais=1", "ais=0"), ("rdi=1", "rdi=0"), ("ssf=1", "ssf=0"), ("refused 4", "refused 5"), ("? 9", "? 8"),
              ("rx refused 5 3", "rx refused 5 4"), ("rx refused 5 3", "rx refused 20 3"), ("refused 5 3", "refused 5"), ("container refused 20 7", "container refused 20 8"),
              ("container refused 20 7", "container refused 21"), ("cat refused 20 3 7", "cat refused 20 7 3"), ("cat refused 20 3 7", "cat refused 20 3 6"), ("lookup refused 20 3 7", "lookup refused 20 2 7"),
@@ -1422,6 +1480,8 @@ def look_at_checks(program, pages, refusals, fault):
     for name, texts in (("a defect", [text for text in brief if "dTIM clears" not in text]), ("a line", [text for text in brief if "line 9" not in text]),
                         ("too much", brief + ["x" * (LONGEST_BRIEF + 1)]), ("a character", [text.replace(" at character 3", "") for text in brief]),
                         ("a byte", [text.replace("trace is DC", "trace is DD") for text in brief]), ("a step", [text.replace("decrement 1 to 0", "") for text in brief]),
+                        ("bit columns", [text.replace(" in columns 6, 7 and 8", "") for text in brief]), ("the right bit column", [text.replace("in column 3", "in column 4") for text in brief]),
+                        ("whose they are", [text.replace(" of the second container", "") for text in brief]), ("the second's", [text.replace(" and in columns 4 and 8 of the second container", "") for text in brief]),
                         ("pairs", [text.replace("; 3 pairs compared", "") for text in brief]), ("pairs of 13", [text.replace("; 2 pairs compared)", ")") for text in brief]),
                         ("the right pairs", [text.replace("; 1 pair compared", "; 2 pairs compared") for text in brief]), ("one pair", [text.replace("; 1 pair ", "; 1 pairs ") for text in brief]),
                         ("the right pairs of 13", [text.replace("; 2 pairs compared)", "; 3 pairs compared)") for text in brief]), ("none", [text.replace("; no pair compared", "") for text in brief]),

@@ -58,8 +58,8 @@ ROWS = {
     "P12": (5, 0x1801, "new data", 1, 0),
 }
 # Lessons that more is asked of than that they print what is kept
-STEPS, TOGETHER, MOST, NOTHING, WHICH, PAIRS, SHEET = ("05-none-one-or-two", "07-two-causes", "13-exactly-66", "14-unequipped", "16-which-character",
-                                                       "17-pairs-counted", "18-the-sheet")
+STEPS, TOGETHER, MOST, NOTHING, WHICH, PAIRS, SHEET, STUCK = ("05-none-one-or-two", "07-two-causes", "13-exactly-66", "14-unequipped", "16-which-character",
+                                                              "17-pairs-counted", "18-the-sheet", "19-one-stuck-line")
 LONGEST = 512  # records of a catalogue
 
 
@@ -391,6 +391,42 @@ def look_at_sheet(lesson, fault):
         fault(place, "no last line without its LF is refused with 15")
 
 
+def sent_at(unit, place):
+    """The payload byte at a place of a unit, where all units up to it were plain and at offset 0: that of the seed, after docs/BENCH.md."""
+    row, column = divmod(place - 9, 261)
+    x = unit - 1
+    for _ in range(row * 260 + column):
+        x = (x * 1664525 + 1013904223) % 2**32
+    return x >> 24
+
+
+def look_at_stuck(lesson, fault):
+    """A line stuck at 0 changes just those bytes of its table that were sent with a 1 there. The same counts come of single hits, in another column each;
+    and a burst hits many, once."""
+    place, changed, unit = f"{lesson.name}.bench", {}, 1
+    for words in commands(lesson.script):
+        if words[0] == "xor":
+            changed.setdefault(unit, {})[int(words[1])] = int(words[2], 16)
+        unit += words[0] == "sink"
+    head = next((re.findall(r"\d+", line) for line in lesson.script if re.match(r"# +unit +place \d", line)), [])
+    table = {int(row[0]): row[1:] for row in (re.findall(r"[0-9A-F]+\*?", line) for line in lesson.script if re.match(r"#  +\d+ +[0-9A-F]{2}", line))}
+    for unit, row in table.items():
+        sent = {int(slot): sent_at(unit, int(slot)) for slot in head}
+        ones = [slot for slot, byte in sent.items() if byte & 0x20]
+        if row != [f"{byte:02X}{'*' if slot in ones else ''}" for slot, byte in sent.items()] + [str(len(ones))] or changed.get(unit, {}) != dict.fromkeys(ones, 0x20):
+            fault(place, f"unit {unit} was sent with {[f'{byte:02X}' for byte in sent.values()]}; its table has {row}, and changed are {changed.get(unit, {})}")
+    columns = [sum(container.columns for container in containers) for containers in lesson.containers]  # of each unit: none ends two
+    ones = [bin(byte).count("1") for byte in columns]
+    stuck = slice(min(table, default=1), max(table, default=0) + 1)  # the units that tell of those
+    alike = [columns[k : k + len(columns[stuck])] for k in range(stuck.stop, len(columns)) if ones[k : k + len(columns[stuck])] == ones[stuck]]
+    if len(table) < 6 or set(columns[stuck]) != {0, 0x20}:
+        fault(place, f"the stuck line shows as {columns[stuck]}")
+    if not any(len(set(other)) == 1 + sum(map(bool, other)) for other in alike):
+        fault(place, "no single hits have the same counts, in another column each")
+    if sum(count > 3 for count in ones) != 1:
+        fault(place, "there is not one burst")
+
+
 def look_at_most(lesson, fault):
     place = f"{lesson.name}.bench"
     told = [(one.field("settled"), one.field("total")) for one in lesson.sinks()]
@@ -467,7 +503,7 @@ def main():
         fault(PAGES[0], f"the lessons take {minutes} minutes")
     by_name = {lesson.name: lesson for lesson in lessons}
     for name, look in ((STEPS, look_at_steps), (TOGETHER, look_at_together), (MOST, look_at_most), (NOTHING, look_at_nothing), (WHICH, look_at_which),
-                       (PAIRS, look_at_pairs), (SHEET, look_at_sheet)):
+                       (PAIRS, look_at_pairs), (SHEET, look_at_sheet), (STUCK, look_at_stuck)):
         if name in by_name:
             look(by_name[name], fault)
         else:

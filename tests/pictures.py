@@ -5,7 +5,8 @@
 
 Every script under examples and lessons is played, and script and printed lines are read here once more. Its picture is
 taken from the drawn shapes, not from how they came about: the units' cells by their places, then which cells each bar,
-band and box covers, which row name stands beside it and which text in it; letters by the cells that they stand above,
+band and box covers, which row name stands beside it and which text in it; of violations the bit columns, container by
+container, from the places of the filled cells; letters by the cells that they stand above,
 and behind each letter the text; questions with their bytes and answers. Blanks of a trace must be there one by one.
 Texts may not lie upon one another or outside the picture, and must be large enough on a screen and on a page. Damaged
 pictures must be found out, and bad input must give a message, a status and no picture. The pictures of runs in
@@ -30,10 +31,10 @@ sys.path.insert(0, os.path.join(ROOT, "tools"))
 import pcap
 import script as tools_script  # for timeline.picture_of alone: what is expected is read here
 import timeline
-from playing import play, read_line, refused_at_once, run, trace_of
+from playing import containers_of, play, read_line, refused_at_once, run, trace_of
 
 TIMELINE, PCAP = os.path.join(ROOT, "tools", "timeline.py"), os.path.join(ROOT, "tools", "pcap.py")
-KEPT = {"steps.svg": "examples/steps.bench", "worst.svg": "examples/settling/worst.bench"}
+KEPT = {"steps.svg": "examples/steps.bench", "worst.svg": "examples/settling/worst.bench", "stuck.svg": "lessons/19-one-stuck-line.bench"}
 OTHERS = ["crates.svg"]  # no run: tools/crates.py makes and compares it
 NAMES = "dUNEQ dTIM dPLM dRDI SSF TSF AIS RDI cAIS cLOP cSSF cUNEQ cTIM cRDI cPLM".split(" ")
 ON_TESTER = dict(zip(NAMES[8:], "AU-AIS AU-LOP HP-SSF HP-UNEQ HP-TIM HP-RDI HP-PLM".split(" ")))
@@ -178,6 +179,14 @@ src -
 """
 
 
+# Units in which two containers end: both have violations, then the first alone; and in narrow cells the second alone too, with all columns and none.
+TWO = """run 3\nsrc i\nsink\nrun 1\nsrc -\nxor 100 A0\nsink\nsrc -\nxor 100 07\nsink\nsrc d\nsink\nrun 3
+src i\nsink\nrun 1\nsrc -\nxor 100 81\nsink\nrun 1\nsrc d\nsink
+"""
+TWO_AND_MORE = TWO + """run 30\nsrc i\nsink\nrun 2\nsrc -\nxor 100 FE\nsink\nsrc d\nsink\nrun 30\nsrc -\nxor 100 FF\nsink\nrun 30\nsrc i\nsink\nrun 3\nsrc d\nsink
+"""
+
+
 def long_run(units):
     """Many units with something among them everywhere, so that it comes at the edges of bands too."""
     lines = ["# A long run", "# Not of the title", 'rx 01 "a" 15', 'tx 01 "a" 0 0']
@@ -192,6 +201,7 @@ def long_run(units):
 def scripts(folder):
     """Name and path of every script: those of examples and lessons, and some that are made here."""
     made = {"odd": ODD, "odd with one unit": "run 1\n", "odd and long": long_run(300), "odd and 26 units": long_run(17), "odd and refused": "rx 00 \"\" 0\n" * 90,
+            "odd and two": TWO, "odd and two, narrow": TWO_AND_MORE,
             "odd questions": f"check\nrx 12 \"a  b\" 15 # c\n? # d\n# \"e  f\"\ncat {RECORD}\n"}
     for name, text in made.items():
         with open(os.path.join(folder, f"{name}.bench"), "w", encoding="ascii") as file:
@@ -220,9 +230,9 @@ class Call:
         if self.refused is None:
             parts = [part.partition("=") for part in text.split(" ")[1:]]
             self.said = {key: value for key, _, value in parts if key != "c"}
-            ended = [value.split(",") for key, _, value in parts if key == "c"]
-            self.violations = sum(int(container[2][2:]) for container in ended)
-            self.returned = sum(int(container[3][3:]) for container in ended)
+            ended = containers_of(text, lambda what: fault("what was printed", what))
+            self.violations, self.returned = sum(container.violations for container in ended), sum(container.returned for container in ended)
+            self.columns = [container.columns for container in ended] if self.violations else []  # of each container, as a byte
             actions = [name for name in NAMES[4:8] if self.said[name.lower()] == "1"]
             self.standing = [name for name in NAMES if name in self.said["d"].split(",") + actions + self.said["cause"].split(",")]
 
@@ -735,6 +745,7 @@ def column_faults(picture, calls, units, every_row):
             here = [text.text for rect in rects if cell.has(*rect.middle) for text in picture.in_it(rect)]
             if here != [str(number)] * (number > 0):
                 yield f"{what}: {name} {here}, not {number}"
+    yield from bit_column_faults(picture, calls, left)
     # totals: of one unit, or of the first and the last of a stretch
     told = set()
     for text in (text for text in picture.texts if text.row == "total"):
@@ -755,6 +766,37 @@ def column_faults(picture, calls, units, every_row):
     if units and calls.index(units[-1]) not in told:
         yield "the last total is not told"
     yield from yield_later
+
+
+def bit_column_faults(picture, calls, left):
+    """What is wrong with the bit columns of violations: in each cell a pile of eight for each container, side by side, filled where violated, 1 at the top."""
+    cells = picture.of("columns")
+    for call, cell in zip(calls, picture.cells):
+        here = sorted((rect for rect in cells if cell.has(*rect.middle)), key=lambda rect: (round(rect.x), rect.y))
+        piles = [[rect for rect in here if round(rect.x) == x] for x in sorted({round(rect.x) for rect in here})]
+        drawn = ["".join({"violated": "1", "sound": "0"}.get(rect.classes, "?") for rect in pile) for pile in piles]
+        expected = call.columns if call.unit else []
+        if drawn != [f"{byte:08b}" for byte in expected]:
+            yield f"unit {call.unit}: the bit columns drawn are {drawn}, and those of its containers {[f'{byte:08b}' for byte in expected]}"
+            continue
+        if any(one.x + one.width > other.x for one, other in zip(here[::8], here[8::8])):
+            yield f"unit {call.unit}: the bit columns of two containers lie upon one another"
+        for pile in piles:
+            # level with the numbers of the first and the last beside the band, with the row's name between them
+            texts = [text for text in picture.texts if text.x + text.width <= left and pile[0].y - 2 <= text.middle[1] <= pile[-1].y + pile[-1].height + 2]
+            level = [next((text.text for text in texts if text.classes == "pale" and abs(text.middle[1] - rect.middle[1]) <= 2), None) for rect in pile]
+            if level != ["1", *[None] * 6, "8"] or [text.text for text in texts if text.bold] != ["bit columns"]:
+                yield f"unit {call.unit}: beside its bit columns stand {level} and {[text.text for text in texts if text.bold]}"
+        # the bytes below; in a narrow cell there is no room for them
+        bytes_below = sorted((text for text in picture.texts if text.row == "columns" and cell.has(*text.middle)), key=lambda text: text.x)
+        told = [text.text for text in bytes_below]
+        printed = [f"{byte:02X}" for byte in expected]
+        if told != [text for text in printed if text != "00"] and (told or cell.width >= (60 if len(expected) > 1 else 18)):
+            yield f"unit {call.unit}: the bytes of its bit columns are {told}, not {printed}"
+        for text in bytes_below:
+            above = [byte for byte, pile in zip(printed, piles) if pile[0].x - 6 <= text.middle[0] <= pile[0].x + pile[0].width + 6 and text.y > pile[-1].y]
+            if text.text not in above:
+                yield f"unit {call.unit}: {text.text} stands below {above}"
 
 
 def line_faults(picture, reading):
@@ -861,8 +903,39 @@ def check_picture(name, path, data, printed, folder):
 # Damage, bad input, kept pictures
 # ---------------------------------------------------------------------------
 
+PILE = r'(?:<rect [^>]*data-row="columns"/>\n){8}<text [^>]*data-row="columns"[^>]*>'  # bit columns of a container, up to their byte
+
+
+def exchanged(found):
+    """Two piles of bit columns, each in the place of the other, with their bytes."""
+    places = sorted(set(re.findall(r' x="([^"]*)"', found[0])), key=float)
+    first, second = places[: len(places) // 2], places[len(places) // 2 :]
+    other = dict(zip(first + second, second + first))
+    return re.sub(r' x="([^"]*)"', lambda x: f' x="{other[x[1]]}"', found[0])
+
+
 # Edits of the pictures of these scripts, each of which must be found out. A shape is moved by so many cells.
 DAMAGE = {
+    "lessons/19-one-stuck-line.bench": [
+        ("another bit column", r'class="violated"( data-row="columns"/>\n<rect [^>]*)class="sound"', r'class="sound"\1class="violated"', None),
+        ("a bit column too many", r'class="sound" data-row="columns"', 'class="violated" data-row="columns"', None),
+        ("a bit column too few", r'class="violated" data-row="columns"', 'class="sound" data-row="columns"', None),
+        ("a bit column of another unit", r'class="violated" data-row="columns"/>', None, ("x", 1)),
+        ("a unit's bit columns left out", PILE + "20</text>\n", "", None),
+        ("bit columns where there are none", r'data-row="columns"/>', None, ("x", 2)),
+        ("the byte of other bit columns", r'(data-row="columns"[^>]*>)20<', r"\g<1>04<", None),
+        ("a byte left out", r'<text [^>]*data-row="columns"[^>]*>76</text>\n', "", None),
+        ("bit columns numbered from the other end", r'(<text class="pale"[^>]*>)1(</text>\n<text class="pale"[^>]*>)8<', r"\g<1>8\g<2>1<", None),
+        ("bit columns of another name", r">bit columns<", ">violations<", None),
+        ("another number of violations", r'(class="violations" [^>]*/>\n<text [^>]*>)5<', r"\g<1>1<", None),
+    ],
+    "odd and two": [
+        ("bit columns of the other container", f"{PILE}A0</text>\n{PILE}07</text>\n", exchanged, None),
+        ("bit columns of the first container alone", f"({PILE}A0</text>\n){PILE}07</text>\n", r"\1", None),
+        ("bit columns of the second container alone", f"{PILE}A0</text>\n({PILE}07</text>\n)", r"\1", None),
+        ("no bit columns of a container without violations", r'(?:<rect [^>]*class="sound" data-row="columns"/>\n){8}', "", None),
+        ("bytes of the other container", r'(data-row="columns"[^>]*>)A0((?:.|\n)*?data-row="columns"[^>]*>)07<', r"\g<1>07\g<2>A0<", None),
+    ],
     "examples/steps.bench": [
         ("a bar shorter by a unit", r'class="defect" data-row="dTIM"/>', None, ("width", -1)),
         ("a bar later by a unit", r'class="action" data-row="SSF"/>', None, ("x", 1)),
@@ -1005,7 +1078,10 @@ def check_bad_input(bench, folder):
         ("a defect that has no row", [], ok.replace(b"d=dTIM", b"d=dTIM,dDEG"), 1, "no picture has a place for that"),
         ("defects in another order", [], ok.replace(b"d=dTIM", b"d=dRDI,dTIM"), 1, "no picture has a place for that"),
         ("a field that has no row", [], ok.replace(b" d=", b" send=2 d="), 1, "no picture has a place for that"),
-        ("a container's field that has no row", [], ok.replace(b",fe=", b",p=01,fe="), 1, "no picture has a place for that"),
+        ("a container's field that has no row", [], ok.replace(b",fe=", b",q=01,fe="), 1, "no picture has a place for that"),
+        ("bit columns that are not as many as the violations", [], ok.replace(b"v=0,", b"v=2,p=01,"), 1, "printed line 1 is not understood"),
+        ("bit columns of no violations", [], ok.replace(b"v=0,", b"v=0,p=00,"), 1, "printed line 1 is not understood"),
+        ("a bench before bit columns", [], ok.replace(b"v=0,", b"v=2,"), 1, "(an earlier bench printed this, without p=; play the script again)"),
         ("bytes that are no text", [], b"\xff\x00\n", 1, "not understood"),
         ("too many units", [], ok * 2001, 1, "at most 2000"),
         ("a run of another script", ["--script", good], ok, 1, "not a run of this script"),

@@ -6,9 +6,9 @@
     tools/explain.py SCRIPT --bench PROGRAM [ARGS..]  plays the script itself
 
 Comments of the script stand where they stand there. Units are counted through the whole script, and equal ones that follow each other
-have one sentence. Causes have the names of a tester beside ours, a refusal says what to do, and of a refused character which byte it is; the
-check of a catalogue says how many pairs of traces it compared; what is in hex for import and export is shown as text, and of a refused
-text the line that is named; a line that was not understood says why.
+have one sentence. Causes have the names of a tester beside ours, violations their bit columns, of which 1 is the highest bit; a refusal says
+what to do, and of a refused character which byte it is; the check of a catalogue says how many pairs of traces it compared; what is in hex
+for import and export is shown as text, and of a refused text the line that is named; a line that was not understood says why.
 What is said is what the printed lines and the script show; where they leave a cause open it is left open here.
 
     --brief      few short lines for a projector: large events only, no comments but the title
@@ -178,6 +178,12 @@ def pairs_text(pairs, brief=False):
     return f"{pairs} pairs of traces were compared" if pairs > 1 else "1 pair of traces was compared"
 
 
+def columns_text(byte):
+    """`in column 3`, `in columns 6, 7 and 8`: the bit columns of a byte, 1 being the highest bit."""
+    columns = script.columns_of(byte)
+    return f"in column{'s' if len(columns) > 1 else ''} {listed(map(str, columns))}"
+
+
 def ones_in(number):
     return bin(number).count("1")
 
@@ -326,6 +332,7 @@ class Teller:
         self.sent, self.asked = None, "-"  # of the unit on the line: what the source printed, and what was asked of it
         self.lengths = {"held": CONTAINER, "done": CONTAINER}
         self.handed = self.ever_settled = False
+        self.violated = 0  # the bit columns of the last container that had violations
         self.length = script.UNIT
 
     # -- items
@@ -708,16 +715,24 @@ class Teller:
                     "no container ended" if not said["ended"] else f"{counted(said['ended'], 'container')} each")
 
     def parity(self, said, clauses):
-        for name, key, one in (("v", "v=", "parity violation"), ("fe", "fe=", "violation returned by the far end")):
-            numbers = [c[name] for c in said["c"]]
-            if not any(numbers):
-                continue
-            tester = self.words.testers.get(key, key)
-            text = counted(sum(numbers), one, one.replace("violation", "violations"))
-            if len(numbers) > 1:
-                text += f", {listed(map(str, numbers))} in the two containers"
+        """Violations with their bit columns, of two containers each with its own; and how many the far end returned."""
+        containers = said["c"]
+        violations, returned = (sum(c[name] for c in containers) for name in ("v", "fe"))
+        if violations:
+            tester = self.words.testers.get("v=", "v=")
+            whose = ("",) if len(containers) == 1 else (" of the first container", " of the second container")
+            where = listed(columns_text(c["p"]) + of for c, of in zip(containers, whose) if c["p"])
+            again = "again " if len(containers) == 1 and containers[0]["p"] == self.violated else ""
+            self.violated = next(c["p"] for c in reversed(containers) if c["p"])
+            text = f"{counted(violations, 'parity violation')}, {again}{where} ({tester})"
+            clauses.add(text, f"{text} each", key=f"violations {where}")  # of equal units the first says whether it is so again
+            clauses.event(f"{counted(violations, 'violation')} {where} ({tester})")
+        if returned:
+            tester = self.words.testers.get("fe=", "fe=")
+            text = counted(returned, "violation returned by the far end", "violations returned by the far end")
+            text += f", {listed(str(c['fe']) for c in containers)} in the two containers" if len(containers) > 1 else ""
             clauses.add(f"{text} ({tester})", f"{text} ({tester}) each")
-            clauses.event(f"{counted(sum(numbers), 'violation')} {'(' if name == 'v' else 'returned ('}{tester})")
+            clauses.event(f"{counted(returned, 'violation')} returned ({tester})")
 
     def defects(self, said, before, clauses):
         words, had, has = self.words, (before["d"] if before else []), said["d"]

@@ -375,16 +375,25 @@ def offset_of(text):
     return "-" if text == "-" else int(text)
 
 
+def columns_of(byte):
+    """The bit columns of a byte, in order: column 1 is the highest bit, which is sent first, and column 8 the lowest."""
+    return [column for column in range(1, 9) if byte >> 8 - column & 1]
+
+
 def container_of(text):
-    """`D@0,F,v=N,fe=N`: where it lies ("D" or "U" and the place), its fnv, and the fields behind; of a monitor the fields alone."""
-    found = re.fullmatch(r"(?:([DU])@(\d+),([0-9A-F]{8}),)?((?:[a-z]+=[0-9A-F]+,)*[a-z]+=[0-9A-F]+)", text)
+    """`D@0,F,v=N,p=HH,fe=N`: where it lies ("D" or "U" and the place), its fnv, and the fields behind; of a monitor the fields alone. `p`, the bit
+    columns that are violated, is a byte of v ones; it is not printed where there are none, and is 0 then."""
+    found = re.fullmatch(r"(?:([DU])@(\d+),([0-9A-F]{8}),)?v=(\d+)(?:,p=([0-9A-F]{2}))?((?:,[a-z]+=[0-9A-F]+)+)", text)
     if not found:
         return None
-    container = {"in": found[1], "place": found[2] and int(found[2]), "fnv": found[3]}
-    for field in found[4].split(","):
+    container = {"in": found[1], "place": found[2] and int(found[2]), "fnv": found[3], "v": int(found[4]), "p": int(found[5] or "0", 16)}
+    for field in found[6][1:].split(","):
         name, _, value = field.partition("=")
-        container[name] = value if name == "p" else int(value) if value.isdigit() else None
-    return container if isinstance(container.get("v"), int) and isinstance(container.get("fe"), int) else None
+        if name in container:
+            return None
+        container[name] = int(value) if value.isdigit() else None
+    good = isinstance(container.get("fe"), int) and len(columns_of(container["p"])) == container["v"] and (found[5] is None) == (container["v"] == 0)
+    return container if good else None
 
 
 WHOLE = matched(r"\d+", int)
@@ -478,8 +487,11 @@ FORMS = [
     ("read", r"read (\d+)", lambda found: {"number": int(found[1])}),
 ]
 FORMS = [(kind, re.compile(pattern), fields) for kind, pattern, fields in FORMS]
-# What has come behind a printed line since an earlier bench. A run of that one may have been kept.
-ADDED = ["pairs=0"]
+# What has come into a printed line since an earlier bench, and how it is put there; a run of that one may have been kept.
+ADDED = {
+    "pairs=": lambda text: f"{text} pairs=0",
+    "p=": lambda text: re.sub(r",v=([1-8]),fe=", lambda found: f",v={found[1]},p={(1 << int(found[1])) - 1:02X},fe=", text),
+}
 
 # What a command that always prints may print: kinds, or "refused" and whose.
 CALLS = {
@@ -511,8 +523,8 @@ def read_printed(text):
 
 def earlier(text):
     """Behind a message on a printed line that is of no kind: what to do where an earlier bench printed it; else nothing."""
-    added = next((each for each in ADDED if read_printed(f"{text} {each}")), None)
-    return f" (an earlier bench printed this, without {added.partition('=')[0]}=; play the script again)" if added else ""
+    added = next((name for name, put in ADDED.items() if read_printed(put(text))), None)
+    return f" (an earlier bench printed this, without {added}; play the script again)" if added else ""
 
 
 def whose(printed):

@@ -38,7 +38,7 @@ BARS = {
 ALL_BARS = [name for names in BARS.values() for name in names]
 # The fields of a unit, and of a container that ended, which the picture shows or may leave out.
 FIELDS = {"c", *script.SINK}
-CONTAINER = {"in", "place", "fnv", "v", "fe"}
+CONTAINER = {"in", "place", "fnv", "v", "p", "fe"}
 
 # ---------------------------------------------------------------------------
 # Traces and other bytes
@@ -217,6 +217,7 @@ class Run:
             column.state, column.ended = said["st"], said["ended"]
             column.offset = "" if said["off"] == "-" else str(said["off"])
             column.violations, column.returned = (sum(container[key] for container in said["c"]) for key in ("v", "fe"))
+            column.violated = [container["p"] for container in said["c"]] if column.violations else []
             column.standing = {*said["d"], *said["cause"], *(name for name in BARS["actions"] if said[name.lower()])}
             column.settled, column.total = said["settled"] == 1, said["total"]
         self.columns.append(column)
@@ -520,6 +521,7 @@ text {{ font-family: {FONT}; }}
 .offset {{ fill: #ffffff; stroke: #2b5d8c; stroke-width: 2; }}
 .ended {{ fill: #0b6e69; }}
 .violations {{ fill: #ffffff; stroke: #9c0f1a; stroke-width: 3; }}
+.violated {{ fill: #9c0f1a; stroke: #9c0f1a; stroke-width: 1; }} .sound {{ fill: #ffffff; stroke: #b08a8d; stroke-width: 1; }}
 .returned {{ fill: #ffffff; stroke: #1d4e9e; stroke-width: 3; }}
 .defect {{ fill: #b3121d; }} .action {{ fill: #1d4e9e; }} .cause {{ fill: #5e2090; }}
 .settled {{ fill: #17803a; }}
@@ -548,6 +550,7 @@ ROOMY = 60  # from this width on a column has its values written in it
 LEAST_NOTES, BETWEEN = 620, 40  # a column of notes, and what lies between two
 NAME, VALUE, GROUP, SMALL = 27, 25, 22, 21  # sizes of type
 LETTER, LINE = 34, 28  # from a note to the next, and from a line to the next within a box
+BITS, BYTE = (13, 11, 9), 36  # how high a bit column is drawn in a roomy cell, a good one and one that is narrower; and the byte below, but in the last
 AXIS, GAP = 44, 8  # the numbers of the units, and what lies above a group of rows
 
 
@@ -679,6 +682,7 @@ class Drawing:
         self.bands, self.width = bands, width
         self.cell, narrow = cell_widths(self.columns, bands, width - GUTTER - RIGHT)
         self.roomy = self.cell >= ROOMY
+        self.bit, self.byte = BITS[(not self.roomy) + (self.cell < GOOD_CELL)], BYTE if self.cell >= GOOD_CELL else 0
         self.at, self.end = {}, {}
         for band in bands:
             x = GUTTER
@@ -725,6 +729,7 @@ class Drawing:
         rows.append(("containers", "ended", "", 46 if self.roomy else 52, self.draw_ended))
         if self.every_row or any(column.violations for column in units):
             rows.append(("containers", "violations", "", 44, self.draw_violations))
+            rows.append(("containers", "bit columns", "", 8 + 8 * self.bit + (self.byte or 8), self.draw_bit_columns))
         if self.every_row or any(column.returned for column in units):
             rows.append(("containers", "returned", "", 44, self.draw_returned))
         for group, names in BARS.items():
@@ -836,6 +841,25 @@ class Drawing:
 
     def draw_violations(self, band, y, height):
         self.draw_numbers(band, y, height, lambda column: column.violations, "violations")
+
+    def draw_bit_columns(self, band, y, height):
+        """The eight bit columns of a container with violations, 1 at the top, the violated ones filled, and where there is room their byte below. Those of
+        two containers of a unit stand side by side, so that it is seen whose they are; one column that comes back is one line through the units."""
+        top, bit = y + 8, self.bit
+        for level, what in ((bit / 2, "1"), (7.5 * bit, "8"), (8 * bit + BYTE / 2, "p="))[: 3 if self.byte else 2]:
+            self.out.text(GUTTER - 14, top + level, what, SMALL, "pale", anchor="end")
+        for number in range(9):
+            self.out.line(GUTTER, top + number * bit, self.end[band[-1]], top + number * bit, "grid")
+        for place in (place for place in band if self.columns[place].unit):
+            (x, width), violated = self.span(place, place), self.columns[place].violated
+            each = width / max(1, len(violated))
+            side = min(each - (4 if self.roomy else 2), 36)
+            for k, byte in enumerate(violated):
+                for number in range(8):
+                    kind = "violated" if byte & 0x80 >> number else "sound"
+                    self.out.rect(x + (k + 0.5) * each - side / 2, top + number * bit + 1, side, bit - 2, kind, data_row="columns")
+                if byte and self.byte:
+                    self.out.fitted(x + k * each, top + 8 * bit, each, self.byte, [f"{byte:02X}"], VALUE, bold=True, least=0.72, data_row="columns")
 
     def draw_returned(self, band, y, height):
         self.draw_numbers(band, y, height, lambda column: column.returned, "returned")
