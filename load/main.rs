@@ -4,10 +4,13 @@
 //! and out of their ranges, the total near its stop.
 //!
 //! Built and run by load/run. The seed is printed; the same seed and number give the same run; how far a long one is it says on standard error. It fails where anything differs, and where a long run has not met each case of the
-//! sink's rules that the second program names. Links libprobe_sources.a and libprobe_sink.a.
+//! sink's rules that the second program names. Links libprobe_sources.a and libprobe_sink.a. With FENCED in the environment every
+//! block that is lent has a fence (tests/fence.rs).
 
 #[path = "../second/bench.rs"]
 mod bench;
+#[path = "../tests/fence.rs"]
+mod fence;
 #[path = "../tests/proved.rs"]
 mod proved;
 #[path = "../tests/random.rs"]
@@ -459,6 +462,9 @@ fn settings(e: &second::Expected) -> Settings {
 }
 
 fn main() {
+    if fence::touched() {
+        return;
+    }
     let arguments: Vec<Option<u64>> = std::env::args().skip(1).map(|text| text.parse().ok()).collect();
     let (units, seed) = match arguments[..] {
         [Some(units)] if units > 0 => (units as usize, 1),

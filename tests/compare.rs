@@ -4,10 +4,12 @@
 //! and the sources (tests/sources.rs).
 //!
 //! Links libcard.a, libprobe.a and libprobe_sources.a. `compare [SEED]`: the seed is fixed unless
-//! one is given. A case that differs is printed whole, and the seed with it.
+//! one is given. A case that differs is printed whole, and the seed with it. With FENCED in the
+//! environment every block that is lent has a fence (tests/fence.rs).
 
 #[path = "../second/second.rs"]
 mod second;
+mod fence;
 mod proved;
 mod random;
 mod sources;
@@ -327,6 +329,9 @@ fn settings(r: &mut Random, t: &mut Tally) {
 }
 
 fn main() {
+    if fence::touched() {
+        return;
+    }
     let seed = match std::env::args().nth(1).map(|s| s.parse::<u64>()) {
         None => 20,
         Some(Ok(n)) => n,
