@@ -1,5 +1,7 @@
 // The bench: reads a script on standard input and plays each line on a container source, a unit source, a line and a sink as soon as it has come. docs/BENCH.md has the language.
 // Its work is in the libraries; here a line of the script is understood and one of them called.
+#![tactic(auto)]
+
 use bench_input::Pending;
 use bench_script::least;
 use bench_sending::{Sent, Sources};

@@ -1,4 +1,6 @@
 // Commands that ask and change nothing: the catalogue's three, its import and export, and the host's three functions.
+#![tactic(auto)]
+
 use bench_script::least;
 use catalogue::{Checked, Found};
 use exporting::Exported;

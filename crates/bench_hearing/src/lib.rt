@@ -1,4 +1,6 @@
 // The receiving half of the bench: the sink's settings, the sink fed with the line, what it answers in print, and the payload call.
+#![tactic(auto)]
+
 use receiving::{Ended, Told};
 use refusals::Answer;
 use settings::Settings;

@@ -1,4 +1,6 @@
 // Lines out of standard input, each as soon as its LF has come. They stand in a buffer of the caller's, which is one byte longer than the longest line.
+#![tactic(auto)]
+
 ghost use Rattle.std.specs.Prelude.{◌+◌, ◌≤◌, length};
 
 use bench_script::least;

@@ -1,4 +1,6 @@
 // Commands about the line, the unit under way: its word overwritten, a byte damaged, all ones, its length, its bytes shown.
+#![tactic(auto)]
+
 use bench_script::least;
 
 // Whether a line of the script was such a command, and how long the bench's line is then.

@@ -1,5 +1,7 @@
 // What the bench prints, piece after piece. Nothing of the card rests on this crate, nor on the bench's others.
 // A piece that standard output does not take is lost; `failed` says that there was one.
+#![tactic(auto)]
+
 use libc::{STDERR_FILENO, STDOUT_FILENO};
 
 pub fn text(s: &[u8]) {

@@ -1,5 +1,7 @@
 // One line of a script: its words, and the numbers, bytes and traces that they stand for. A word is named by its place, the command's name being 0; one that is not there
 // has no bytes. Any bytes may be given. docs/BENCH.md has the language.
+#![tactic(auto)]
+
 ghost use Rattle.std.specs.Prelude.{◌+◌, ◌≤◌, ◌<◌, length};
 
 // A number that was read; not good where there was none.

@@ -1,4 +1,6 @@
 // The sending half of the bench: a container source and a unit source, a queue of two containers, and what the container source is given.
+#![tactic(auto)]
+
 use bench_script::least;
 use container_source::{Given, Unexamined};
 use refusals::{Answer, Refusal};

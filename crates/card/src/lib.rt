@@ -1,5 +1,7 @@
 // What the card's host, in C, calls: parity, trace check and word reading on byte slices, and a check of settings before they are used. include/card.h declares them.
 // The first three refuse nothing, and each of the four has an answer for every length.
+#![tactic(auto)]
+
 ghost use Rattle.std.specs.Prelude.{◌≡◌};
 ghost use Rattle.parity.specs.Parity.{parity_of};
 ghost use Rattle.trace_message.specs.Message.{trace_check};

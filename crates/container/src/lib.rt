@@ -1,5 +1,7 @@
 // A container's rows, written and read, and the payload call. The definitions stand in specs/: Container (the layout), Payload (the call).
 // proofs/Places.antt says where each byte lies. The container source rests on this crate, and what the monitor sees of a container.
+#![tactic(auto)]
+
 ghost use Rattle.std.specs.Prelude.{◌≡◌, ◌+◌, ◌*◌, length};
 ghost use Rattle.shape.specs.Shape.{au4, Fit};
 ghost use Rattle.refusals.specs.Refusals.{answer_of};

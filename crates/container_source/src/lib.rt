@@ -1,5 +1,7 @@
 // The container source, the sending end of a path: the overhead of each container, what is refused, and the state from one container to the next.
 // The definitions stand in specs/: Overhead (the nine bytes), Source (the call). The theorems about what it sends are in the crate `container_source_theorems`.
+#![tactic(auto)]
+
 ghost use Rattle.std.specs.Prelude.{◌≡◌, ◌≤◌};
 ghost use Rattle.shape.specs.Shape.{au4, Fit};
 ghost use Rattle.refusals.specs.Refusals.{answer_of};

@@ -1,5 +1,7 @@
 // Where containers end and begin in a unit, and the copies that follow from it. The definitions stand in specs/Cut.antt; the sink rests on this crate.
 // How the pointer word was taken is not known here: what it comes to is two numbers, the held bytes that the unit goes on with and the place where its run begins.
+#![tactic(auto)]
+
 ghost use Rattle.std.specs.Prelude.{◌≡◌, ◌++◌, ◌+◌, ◌≤◌, length, drop};
 ghost use Rattle.shape.specs.Shape.{Fit, unit_length};
 ghost use Rattle.cut.specs.Cut.{next_of, begin_of, cut_of, done_of};

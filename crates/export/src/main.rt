@@ -1,4 +1,6 @@
 // Exports a catalogue from standard input as comma-separated text; for a refused catalogue it prints the one line of its refusal.
+#![tactic(auto)]
+
 use exporting::Exported;
 use libc::STDIN_FILENO;
 

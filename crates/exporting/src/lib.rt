@@ -1,4 +1,6 @@
 // The export of a catalogue as comma-separated text, in a lent buffer. What it is stands in specs/Export.antt. The program `export` prints it.
+#![tactic(auto)]
+
 ghost use Rattle.std.specs.Prelude.{◌≡◌};
 ghost use Rattle.exporting.specs.Export.{sheet_form, Exports};
 

@@ -1,4 +1,6 @@
 // Imports comma-separated text from standard input: prints the catalogue, or for a refused text the one line of its refusal.
+#![tactic(auto)]
+
 use importing::Imported;
 use libc::STDIN_FILENO;
 use sheet_refusals::Refusal;

@@ -1,5 +1,7 @@
 // The import of comma-separated text into a lent catalogue. What it is stands in specs/Import.antt, one line in the crate `sheet_line`, and its refusals in `sheet_refusals`;
 // specs/Inner.antt has what the functions inside ask and answer. The program `import` prints what it gives.
+#![tactic(auto)]
+
 ghost use Rattle.std.specs.Prelude.{◌≡◌, ◌+◌, ◌*◌, ◌<◌, ◌≤◌, length, drop};
 ghost use Rattle.text.specs.Inner.{Written};
 ghost use Rattle.split.specs.Split.{up_to};

@@ -1,4 +1,6 @@
 // Prints the listing of a catalogue that comes in on standard input.
+#![tactic(auto)]
+
 use libc::STDIN_FILENO;
 
 fn main() {

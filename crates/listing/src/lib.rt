@@ -1,5 +1,7 @@
 // The listing of a catalogue as text, in a lent buffer: the heading and a line for each record, or the one line of a refusal.
 // What it is stands in specs/Listing.antt. The program `list` prints it.
+#![tactic(auto)]
+
 ghost use Rattle.std.specs.Prelude.{◌≡◌, ◌++◌, ◌+◌, ◌*◌, ◌≤◌, length};
 ghost use Rattle.text.specs.Inner.{Written};
 ghost use Rattle.records.specs.Record.{old_kind};

@@ -1,5 +1,7 @@
 // The container monitor: what is read of each container that ended. It sees four overhead bytes and the container's parity only, so it is the same for every size of container.
 // The definitions stand in specs/: Seeing (what is seen), Monitoring (the machine). The sink calls `see` and `step` for each container, and `blank(48)` in a unit with SSF; `unit_end` takes the defects from here.
+#![tactic(auto)]
+
 ghost use Rattle.std.specs.Prelude.{◌≡◌, ◌*◌, ◌<◌, length};
 ghost use Rattle.monitor.specs.Seeing.{seen_in};
 ghost use Rattle.monitor.specs.Monitoring.{no_parity, forgot, blank_of, monitor_in_range, watch_step, seen_of};

@@ -1,5 +1,7 @@
 // The pairs of a file's records: the first two with one trace, and how many pairs were compared to find them.
 // The definitions stand in specs/Pairs.antt. The catalogue's check rests on this crate.
+#![tactic(auto)]
+
 ghost use Rattle.std.specs.Prelude.{◌≡◌, ◌+◌, ◌*◌, ◌≤◌, length};
 ghost use Rattle.records.specs.Record.{most_records};
 ghost use Rattle.records.specs.Inner.{Serves};

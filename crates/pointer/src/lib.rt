@@ -1,6 +1,8 @@
 // The pointer from word to word: rows, state and wait after a word taken by the rules of the crate `pointer_rules`, and one step with it all.
 // The definitions stand in specs/Machine.antt, the laws in proofs/Ranges.antt and 01's table in proofs/Table.antt. The sink rests on it.
 // `top` is the largest pointer value, 782 in AU-4.
+#![tactic(auto)]
+
 ghost use Rattle.std.specs.Prelude.{◌≡◌, cond};
 ghost use Rattle.pointer_state.specs.State.{is_normal};
 ghost use Rattle.pointer.specs.Machine.{no_rows, fresh_pointer, rows_after, alarm_word, renewed, new_data, invalid, state_after, wait_after, pointer_step, pointer_in_range};

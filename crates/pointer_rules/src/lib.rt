@@ -1,6 +1,8 @@
 // How a pointer word is taken: rules 1 to 6 of "Reading one pointer word", and what the rest of the sink asks of a word so taken.
 // The definitions stand in specs/Rules.antt. The crate `pointer`, which goes from word to word, rests on it.
 // `top` is the largest pointer value, 782 in AU-4.
+#![tactic(auto)]
+
 ghost use Rattle.std.specs.Prelude.{◌≡◌};
 ghost use Rattle.pointer_rules.specs.Rules.{run_after, elsewhere, adjustment, in_normal, in_alarm_or_lost, by_state, taken_as, restarts, adjustment_of};
 

@@ -1,5 +1,7 @@
 // The state of the pointer, normal with its offset, alarm or lost, and what is asked of it. The definitions stand in specs/State.antt.
 // The rules of the pointer, its machine and the sink rest on this crate.
+#![tactic(auto)]
+
 ghost use Rattle.std.specs.Prelude.{◌≡◌};
 ghost use Rattle.pointer_state.specs.State.{is_normal, is_alarm, offset_of, placed};
 

@@ -1,5 +1,7 @@
 // For tests and benchmarks only: parts of the card that its host does not call, as functions that Rust and C can link.
 // Enums become numbers by the definitions of specs/Probe.antt. Nothing of the card rests on this crate.
+#![tactic(auto)]
+
 ghost use Rattle.std.specs.Prelude.{◌≡◌, ◌+◌, ◌*◌, ◌%◌, cond, eqb, length};
 ghost use Rattle.trace_message.specs.Message.{start_byte};
 ghost use Rattle.word.specs.Word.{plain_word, inverted_word, inverted};

@@ -1,5 +1,7 @@
 // For tests and benchmarks only: the sink and the view of what it hands back, as functions that Rust and C can link. No enum can be handed across, so the pointer's state and the answer become numbers
 // by the definitions of specs/Probe.antt; all else is handed across as it is, and any state can be given. Nothing of the card rests on this crate.
+#![tactic(auto)]
+
 ghost use Rattle.std.specs.Prelude.{◌≡◌};
 ghost use Rattle.sink.specs.Sink as sink;
 ghost use Rattle.probe_sink.specs.Probe.{pointer_state, state_kind, state_of, plain_of, shown_of, Shows, WritesContainer};

@@ -1,5 +1,7 @@
 // For tests and benchmarks only: the sources and the payload call, as functions that Rust and C can link.
 // States and answers become numbers by the definitions of specs/Probe.antt. Nothing of the card rests on this crate.
+#![tactic(auto)]
+
 ghost use Rattle.std.specs.Prelude.{◌≡◌, ◌%◌, ◌<◌};
 ghost use Rattle.shape.specs.Shape.{au4};
 ghost use Rattle.container.specs.Payload.{payload_call};

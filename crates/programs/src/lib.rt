@@ -1,5 +1,7 @@
 // What the programs share that read a file from standard input and print to standard output: whether the input has ended, what cannot be read or written, and
 // a refusal, as its one line and in words. A program has no exit status: what standard output holds must tell a refused file from a good one. Nothing of the card rests on this crate.
+#![tactic(auto)]
+
 use libc::{STDERR_FILENO, STDIN_FILENO, STDOUT_FILENO};
 use records::PlaceList;
 

@@ -1,1 +1,2 @@
 // No code: that each public promise allows one outcome only, in proofs/.
+#![tactic(auto)]

@@ -1,4 +1,6 @@
 // A trace in double quotes, read from behind its opening quote on and written. The definitions stand in specs/Quotes.antt.
+#![tactic(auto)]
+
 ghost use Rattle.std.specs.Prelude.{◌≡◌, false, [], ◌∷◌, ◌+◌, ◌*◌, ◌<◌, ◌≤◌, length};
 ghost use Rattle.text.specs.Inner.{Written};
 ghost use Rattle.quotes.specs.Quotes.{in_quotes, behind_quotes, doubled, width_at};

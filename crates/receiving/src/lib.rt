@@ -1,5 +1,7 @@
 // What a unit that ends normal leaves: the containers that ended in it, watched one after the other, and the bytes that are held.
 // The definitions stand in specs/Receiving.antt, the steps of the code between them in specs/InnerTurns.antt. The sink rests on this crate.
+#![tactic(auto)]
+
 ghost use Rattle.std.specs.Prelude.{◌≡◌, cond, ◌+◌, ◌*◌, ◌<◌, ◌≤◌, length};
 ghost use Rattle.shape.specs.Shape.{Fit};
 ghost use Rattle.cut.specs.Cut.{inside_part};

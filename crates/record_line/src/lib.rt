@@ -1,5 +1,7 @@
 // A record of the catalogue as a line of text, written into a lent buffer: the lines of the listing and those of the export, which differ in their form.
 // The definitions stand in specs/RecordLine.antt; specs/Inner.antt has how long a line can be.
+#![tactic(auto)]
+
 ghost use Rattle.std.specs.Prelude.{◌≡◌, [], ◌∷◌, ◌++◌, ◌+◌, ◌*◌, ◌<◌, ◌≤◌, length};
 ghost use Rattle.text.specs.Inner.{Short, Within};
 ghost use Rattle.records.specs.Record.{circuit_in, flags_in};

@@ -1,5 +1,7 @@
 // The one line of a refusal, written at the start of a lent buffer: its number, and the places that it names. The programs print it.
 // What it is stands in specs/RefusalLine.antt.
+#![tactic(auto)]
+
 ghost use Rattle.std.specs.Prelude.{◌≡◌, ◌∷◌, ◌+◌, ◌<◌, ◌≤◌, length};
 ghost use Rattle.text.specs.Text.{decimal_of};
 ghost use Rattle.text.specs.Inner.{Short, Within, Written};

@@ -1,5 +1,7 @@
 // The shape of a unit and of its containers, as four numbers, and what an adjustment does to places in them.
 // The definitions stand in specs/Shape.antt; proofs/Balance.antt has the law that every count of containers follows from. The sources and the sink rest on this crate.
+#![tactic(auto)]
+
 ghost use Rattle.std.specs.Prelude.{◌≡◌, cond, ◌≤◌};
 ghost use Rattle.shape.specs.Shape.{au4, Fit, place_of, held_count, up_of, down_of, offset_after, run_from, ended_by};
 

@@ -1,5 +1,7 @@
 // One line of the text that is imported, without its LF: what is wrong with it, and the record that it says, written into a lent buffer.
 // How a line is written stands in specs/Grammar.antt, how it is taken apart in specs/Line.antt.
+#![tactic(auto)]
+
 ghost use Rattle.std.specs.Prelude.{◌≡◌, ◌+◌, ◌<◌, ◌≤◌, length, drop};
 ghost use Rattle.text.specs.Inner.{Written};
 ghost use Rattle.digits.specs.Digits.{value_from};

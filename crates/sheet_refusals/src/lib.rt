@@ -1,4 +1,6 @@
 // Why an import is refused, with the number that each reason has and the places that it names. The definitions stand in specs/Refusals.antt.
+#![tactic(auto)]
+
 ghost use Rattle.std.specs.Prelude.{◌≡◌, [], ◌∷◌};
 ghost use Rattle.sheet_line.specs.Refusals.{line_number};
 ghost use Rattle.records.specs.Refusals.{places_given};

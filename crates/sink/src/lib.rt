@@ -1,5 +1,7 @@
 // The sink, the receiving end of a path: what is refused, then pointer, cut, monitor and report, in the paper's order. The definitions stand in specs/Sink.antt.
 // The host feeds it one unit after the other; the view of what ended is in the crate `view`.
+#![tactic(auto)]
+
 ghost use Rattle.std.specs.Prelude.{◌≡◌, ◌<◌, length};
 ghost use Rattle.shape.specs.Shape.{au4, Fit};
 ghost use Rattle.refusals.specs.Refusals.{answer_of};

@@ -1,5 +1,7 @@
 // The trace message of J1: its start byte with the 7-bit check, whether a message is good, whether two traces are the same.
 // The definitions stand in specs/Message.antt. The container source, the sink's trace machine, the catalogue and the card's host rest on this crate.
+#![tactic(auto)]
+
 ghost use Rattle.std.specs.Prelude.{◌≡◌, ◌<◌};
 ghost use Rattle.trace_message.specs.Message.{check7, start_byte, top_bits_clear, good_message, trace_check, alike};
 ghost use Rattle.trace_message.specs.InnerRegister.{bits_in, bytes_in, reduced};

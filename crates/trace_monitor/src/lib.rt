@@ -1,5 +1,7 @@
 // The trace machine: the messages of J1, byte after byte, the accepted one, and dTIM. The definitions stand in specs/Trace.antt.
 // The monitor joins it with what is read of B3, C2 and G1.
+#![tactic(auto)]
+
 ghost use Rattle.std.specs.Prelude.{◌≡◌};
 ghost use Rattle.trace_message.specs.Message.{alike};
 ghost use Rattle.trace_monitor.specs.Trace.{gathered_of, ends_good, spoils, with_good, without_good, trace_of, blank_trace};

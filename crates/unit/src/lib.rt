@@ -1,4 +1,6 @@
 // A unit's bytes, written: the header, and the run of container bytes after it. The definitions stand in specs/Unit.antt. The unit source rests on this crate.
+#![tactic(auto)]
+
 ghost use Rattle.std.specs.Prelude.{◌≡◌, ◌++◌, ◌-◌, ◌≤◌, min, length, take, drop};
 ghost use Rattle.unit.specs.Unit.{group_of, head_of, run_of};
 ghost use Rattle.unit.specs.Inner.{Head, Pour};

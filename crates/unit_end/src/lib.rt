@@ -1,5 +1,7 @@
 // What is told at a unit's end: actions and causes, whether it ended settled, and the unsettled total. The definitions stand in specs/: Terms (which defects count
 // where), Actions (actions and causes), Settled. proofs/Together.antt says which causes stand together. The sink calls these once a unit, after its last container.
+#![tactic(auto)]
+
 ghost use Rattle.std.specs.Prelude.{◌≡◌};
 ghost use Rattle.unit_end.specs.Terms.{termination};
 ghost use Rattle.unit_end.specs.Actions.{defects_of, tsf_of, actions_of, causes_of};

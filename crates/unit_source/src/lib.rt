@@ -1,5 +1,7 @@
 // The unit source: units made out of containers, with the pointer written and adjusted. The definitions stand in specs/Source.antt.
 // The theorems about what it sends are in the crate `unit_source_theorems`.
+#![tactic(auto)]
+
 ghost use Rattle.std.specs.Prelude.{◌≡◌, length};
 ghost use Rattle.shape.specs.Shape.{au4, Fit};
 ghost use Rattle.refusals.specs.Refusals.{answer_of};

@@ -1,5 +1,7 @@
 // The view of the containers that ended in a unit: two lent slices, and no copy. The definitions stand in specs/View.antt. Whoever takes a container that the sink
 // handed back takes it from here: the bench, and the sink's probe. Any numbers may be asked for: a part that is not there is empty.
+#![tactic(auto)]
+
 ghost use Rattle.std.specs.Prelude.{◌≡◌, [], get_or};
 ghost use Rattle.view.specs.View.{part_of, in_order, container_handed, Views};
 

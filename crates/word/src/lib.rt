@@ -1,5 +1,7 @@
 // The pointer word, H1 and H2 as one number: read and written. Its definitions stand in specs/Word.antt.
 // The unit source, the reading of pointer words and the card's host rest on it.
+#![tactic(auto)]
+
 ghost use Rattle.std.specs.Prelude.{◌≡◌};
 ghost use Rattle.word.specs.Word.{word_of, h1_of, h2_of, kind_of, ss_of, value_of, reading_of, of_kind, good, inverted, plain_word, inverted_word};
 
