@@ -8,31 +8,11 @@ use Rattle.copier.proofs.Parts.{parts_alike}
 use Rattle.container.proofs.RowLaws.{row_room, room_left, left_next, rows_long, rows_turn, rows_end}
 use Rattle.container.proofs.rows.Goals as goal
 
--- there is room for one more row
-room :
-    (c : tie.In-loop invariant-loop decreases-loop) →
-    let l = c.before in
-    let a = l.before.before.before.args in
-    (l.loop.to + 1 + a.width ≤ length l.loop.container) × (l.loop.from + a.width ≤ length a.payload.now)
-room c = (search row_room, search room_left)
-
 pub loop-row-init : goal.loop-row-init
 loop-row-init c = (omega arith, (search rules, (refl, (omega arith, (refl, refl)))))
 
 pub bounds-overhead-row : goal.bounds-overhead-row
 bounds-overhead-row c = omega arith
-
-pub bounds-container-to : goal.bounds-container-to
-bounds-container-to c = omega (arith, room c)
-
-pub overflow_add-start : goal.overflow_add-start
-overflow_add-start c = omega (arith, room c)
-
-pub overflow_add-end : goal.overflow_add-end
-overflow_add-end c = omega (arith, room c)
-
-pub overflow_add-next : goal.overflow_add-next
-overflow_add-next c = omega (arith, room c)
 
 pub slice_bounds-copy-count : goal.slice_bounds-copy-count
 slice_bounds-copy-count c = omega arith

@@ -7,7 +7,7 @@ use Rattle.container.specs.Container.{rows_of}
 use Rattle.container.proofs.rows.Given as goal
 
 abbrev pub invariant-loop-row : goal.invariant-loop-row
-invariant-loop-row l =     (l.row ≤ 9)
+invariant-loop-row l = (l.row ≤ 9)
     × ((length l.overhead ≡ 9)
     × ((l.to ≡ l.from + l.row)
     × ((l.from + (9 - l.row) * l.width ≡ length l.payload)

@@ -8,25 +8,8 @@ use Rattle.copier.proofs.Parts.{parts_alike}
 use Rattle.container.proofs.RowLaws.{taken_room, payload_room, left_next, strip_long, strip_turn, strip_end}
 use Rattle.container.proofs.strip.Goals as goal
 
--- there is one more row, and room for it
-room :
-    (c : tie.In-loop invariant-loop decreases-loop) →
-    let l = c.before in
-    let a = l.before.before.before.args in
-    (l.loop.from + 1 + a.width ≤ length a.container.now) × (l.loop.to + a.width ≤ length l.loop.payload)
-room c = (search taken_room, search payload_room)
-
 pub loop-done-init : goal.loop-done-init
 loop-done-init c = (omega arith, (refl, (omega arith, (refl, refl))))
-
-pub overflow_add-start : goal.overflow_add-start
-overflow_add-start c = omega (arith, room c)
-
-pub overflow_add-end : goal.overflow_add-end
-overflow_add-end c = omega (arith, room c)
-
-pub overflow_add-next : goal.overflow_add-next
-overflow_add-next c = omega (arith, room c)
 
 pub slice_bounds-copy-count : goal.slice_bounds-copy-count
 slice_bounds-copy-count c = omega arith

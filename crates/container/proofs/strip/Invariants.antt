@@ -7,7 +7,7 @@ use Rattle.container.specs.Container.{strip_of}
 use Rattle.container.proofs.strip.Given as goal
 
 abbrev pub invariant-loop-done : goal.invariant-loop-done
-invariant-loop-done l =     (l.done ≤ 9)
+invariant-loop-done l = (l.done ≤ 9)
     × ((l.from ≡ l.to + l.done)
     × ((l.to + (9 - l.done) * l.width ≡ length l.initial.payload)
     × ((length l.payload ≡ length l.initial.payload)
