@@ -3,13 +3,16 @@
 #![tactic(auto)]
 
 use bench_input::Pending;
+use bench_say::Output;
 use bench_script::least;
 use bench_sending::{Sent, Sources};
 use settings::Settings;
 use shape::Adjustment;
+use std::env::{Env, FillError};
+use std::io::Read;
 
 // How much of the line, of held and of done there is.
-#[derive(Drop)]
+#[derive(Clone, Copy)]
 struct Lengths {
     line: usize,
     held: usize,
@@ -17,7 +20,7 @@ struct Lengths {
 }
 
 // All that the bench holds but the bytes.
-#[derive(Drop)]
+#[derive(Clone, Copy)]
 struct Bench {
     sources: Sources,
     sink: sink::State,
@@ -97,14 +100,14 @@ fn command(s: &[u8], n: usize) -> u8 {
 
 // ---- settings
 
-fn tx(s: &[u8], number: u64, before: Sent) -> Sent {
+fn tx<P: Print>(out: &mut Output<P>, s: &[u8], number: u64, before: Sent) -> Sent {
     let mut trace = [0u8; 15];
     let label = bench_script::hex(s, 1, 1);
     let is_trace = bench_script::trace(s, 2, &mut trace);
     let violations = bench_script::decimal(s, 3, 255);
     let remote = bench_script::decimal(s, 4, 1);
     if !(label.good & is_trace & violations.good & remote.good) {
-        bench_say::unknown(number);
+        bench_say::unknown(out, number);
         return before;
     }
     let sent = Sent {
@@ -113,17 +116,17 @@ fn tx(s: &[u8], number: u64, before: Sent) -> Sent {
         violations: (violations.value % 256) as u8,
         remote: remote.value == 1,
     };
-    bench_sending::say_order(sent);
+    bench_sending::say_order(out, sent);
     sent
 }
 
-fn rx(s: &[u8], number: u64, before: Settings) -> Settings {
+fn rx<P: Print>(out: &mut Output<P>, s: &[u8], number: u64, before: Settings) -> Settings {
     let mut trace = [0u8; 15];
     let label = bench_script::hex(s, 1, 1);
     let is_trace = bench_script::trace(s, 2, &mut trace);
     let flags = bench_script::decimal(s, 3, 15);
     if !(label.good & is_trace & flags.good) {
-        bench_say::unknown(number);
+        bench_say::unknown(out, number);
         return before;
     }
     let settings = Settings {
@@ -131,28 +134,35 @@ fn rx(s: &[u8], number: u64, before: Settings) -> Settings {
         trace,
         flags: settings::flags_of((flags.value % 16) as u8),
     };
-    bench_hearing::say_order(settings);
+    bench_hearing::say_order(out, settings);
     settings
 }
 
 // ---- held and done
 
-fn fill(s: &[u8], number: u64, held: &mut [u8], done: &mut [u8]) {
+fn fill<P: Print>(out: &mut Output<P>, s: &[u8], number: u64, held: &mut [u8], done: &mut [u8]) {
     let h = bench_script::hex(s, 1, 1);
     let d = bench_script::hex(s, 2, 1);
     if !(h.good & d.good) {
-        bench_say::unknown(number);
+        bench_say::unknown(out, number);
         return;
     }
     copier::fill(held, (h.value % 256) as u8);
     copier::fill(done, (d.value % 256) as u8);
 }
 
-fn lens(s: &[u8], number: u64, before: Lengths, held: &mut [u8], done: &mut [u8]) -> Lengths {
+fn lens<P: Print>(
+    out: &mut Output<P>,
+    s: &[u8],
+    number: u64,
+    before: Lengths,
+    held: &mut [u8],
+    done: &mut [u8],
+) -> Lengths {
     let h = bench_script::decimal(s, 1, 4096);
     let d = bench_script::decimal(s, 2, 4096);
     if !(h.good & d.good) {
-        bench_say::unknown(number);
+        bench_say::unknown(out, number);
         return before;
     }
     copier::fill(held, 0xaa);
@@ -182,12 +192,18 @@ fn request(s: &[u8]) -> Adjustment {
 }
 
 // `src`: the next unit, asked for so.
-fn send(b: Bench, a: Adjustment, queue: &mut [u8], line: &mut [u8]) -> Bench {
+fn send<P: Print>(
+    out: &mut Output<P>,
+    b: Bench,
+    a: Adjustment,
+    queue: &mut [u8],
+    line: &mut [u8],
+) -> Bench {
     let mut t = b;
     let lengths = b.lengths;
     let sources = b.sources;
     let sent = b.sent;
-    let l = bench_sending::send(sources, sent, a, lengths.line, queue, line);
+    let l = bench_sending::send(out, sources, sent, a, lengths.line, queue, line);
     let after = l.sources;
     let length = l.length;
     t.sources = after;
@@ -195,16 +211,30 @@ fn send(b: Bench, a: Adjustment, queue: &mut [u8], line: &mut [u8]) -> Bench {
     t
 }
 
-fn src(b: Bench, s: &[u8], number: u64, queue: &mut [u8], line: &mut [u8]) -> Bench {
+fn src<P: Print>(
+    out: &mut Output<P>,
+    b: Bench,
+    s: &[u8],
+    number: u64,
+    queue: &mut [u8],
+    line: &mut [u8],
+) -> Bench {
     if !is_request(s) {
-        bench_say::unknown(number);
+        bench_say::unknown(out, number);
         return b;
     }
-    send(b, request(s), queue, line)
+    send(out, b, request(s), queue, line)
 }
 
 // `sink`: the line is fed to it.
-fn feed(b: Bench, line: &[u8], held: &mut [u8], done: &mut [u8], last: &mut [u8]) -> Bench {
+fn feed<P: Print>(
+    out: &mut Output<P>,
+    b: Bench,
+    line: &[u8],
+    held: &mut [u8],
+    done: &mut [u8],
+    last: &mut [u8],
+) -> Bench {
     let mut t = b;
     let lengths = b.lengths;
     let before = b.sink;
@@ -213,6 +243,7 @@ fn feed(b: Bench, line: &[u8], held: &mut [u8], done: &mut [u8], last: &mut [u8]
     let h = least(lengths.held, held.len());
     let d = least(lengths.done, done.len());
     t.sink = bench_hearing::feed(
+        out,
         before,
         settings,
         &line[..l],
@@ -224,7 +255,8 @@ fn feed(b: Bench, line: &[u8], held: &mut [u8], done: &mut [u8], last: &mut [u8]
 }
 
 // `src -` and `sink`.
-fn turn(
+fn turn<P: Print>(
+    out: &mut Output<P>,
     b: Bench,
     line: &mut [u8],
     held: &mut [u8],
@@ -232,12 +264,13 @@ fn turn(
     queue: &mut [u8],
     last: &mut [u8],
 ) -> Bench {
-    let sent = send(b, Adjustment::Nothing, queue, line);
-    feed(sent, line, held, done, last)
+    let sent = send(out, b, Adjustment::Nothing, queue, line);
+    feed(out, sent, line, held, done, last)
 }
 
 // These two, so many times.
-fn turns(
+fn turns<P: Print>(
+    out: &mut Output<P>,
     start: Bench,
     n: u32,
     line: &mut [u8; 4096],
@@ -249,14 +282,15 @@ fn turns(
     let mut b = start;
     let mut left = n;
     while 0 < left {
-        b = turn(b, line, held, done, queue, last);
+        b = turn(out, b, line, held, done, queue, last);
         left -= 1;
     }
     b
 }
 
 // `run`
-fn run(
+fn run<P: Print>(
+    out: &mut Output<P>,
     b: Bench,
     s: &[u8],
     number: u64,
@@ -268,23 +302,23 @@ fn run(
 ) -> Bench {
     let n = bench_script::decimal(s, 1, 9999);
     if !n.good {
-        bench_say::unknown(number);
+        bench_say::unknown(out, number);
         return b;
     }
     if n.value == 0 {
-        bench_say::unknown(number);
+        bench_say::unknown(out, number);
         return b;
     }
-    turns(b, n.value, line, held, done, queue, last)
+    turns(out, b, n.value, line, held, done, queue, last)
 }
 
-fn payload(s: &[u8], number: u64, last: &[u8]) {
+fn payload<P: Print>(out: &mut Output<P>, s: &[u8], number: u64, last: &[u8]) {
     let ais = bench_script::decimal(s, 1, 1);
     if !ais.good {
-        bench_say::unknown(number);
+        bench_say::unknown(out, number);
         return;
     }
-    bench_hearing::payload(ais.value == 1, last);
+    bench_hearing::payload(out, ais.value == 1, last);
 }
 
 fn wipe(line: &mut [u8], held: &mut [u8], done: &mut [u8], queue: &mut [u8], last: &mut [u8]) {
@@ -304,7 +338,8 @@ fn fresh(b: Bench) -> Bench {
 
 // ---- one line of the script, by groups of commands
 
-fn hear(
+fn hear<P: Print>(
+    out: &mut Output<P>,
     b: Bench,
     code: u8,
     s: &[u8],
@@ -315,37 +350,46 @@ fn hear(
     last: &mut [u8],
 ) -> Bench {
     if code == SINK {
-        return feed(b, line, held, done, last);
+        return feed(out, b, line, held, done, last);
     }
-    payload(s, number, last);
+    payload(out, s, number, last);
     b
 }
 
-fn set(b: Bench, code: u8, s: &[u8], number: u64) -> Bench {
+fn set<P: Print>(out: &mut Output<P>, b: Bench, code: u8, s: &[u8], number: u64) -> Bench {
     let mut t = b;
     if code == TX {
         let old = b.sent;
-        t.sent = tx(s, number, old);
+        t.sent = tx(out, s, number, old);
         return t;
     }
     let old = b.settings;
-    t.settings = rx(s, number, old);
+    t.settings = rx(out, s, number, old);
     t
 }
 
-fn prepare(b: Bench, code: u8, s: &[u8], number: u64, held: &mut [u8], done: &mut [u8]) -> Bench {
+fn prepare<P: Print>(
+    out: &mut Output<P>,
+    b: Bench,
+    code: u8,
+    s: &[u8],
+    number: u64,
+    held: &mut [u8],
+    done: &mut [u8],
+) -> Bench {
     if code == FILL {
-        fill(s, number, held, done);
+        fill(out, s, number, held, done);
         return b;
     }
     let mut t = b;
     let old = b.lengths;
-    t.lengths = lens(s, number, old, held, done);
+    t.lengths = lens(out, s, number, old, held, done);
     t
 }
 
 // One that is understood. `queue` has the two containers queued, `last` the one handed back last.
-fn play_command(
+fn play_command<P: Print>(
+    out: &mut Output<P>,
     b: Bench,
     code: u8,
     s: &[u8],
@@ -357,26 +401,27 @@ fn play_command(
     last: &mut [u8; 2349],
 ) -> Bench {
     if RUN <= code {
-        return run(b, s, number, line, held, done, queue, last);
+        return run(out, b, s, number, line, held, done, queue, last);
     }
     if SINK <= code {
-        return hear(b, code, s, number, line, held, done, last);
+        return hear(out, b, code, s, number, line, held, done, last);
     }
     if SRC <= code {
-        return src(b, s, number, queue, line);
+        return src(out, b, s, number, queue, line);
     }
     if TX <= code {
-        return set(b, code, s, number);
+        return set(out, b, code, s, number);
     }
     if FILL <= code {
-        return prepare(b, code, s, number, held, done);
+        return prepare(out, b, code, s, number, held, done);
     }
     wipe(line, held, done, queue, last);
     fresh(b)
 }
 
 // One line, without its comment: a question is answered, the line changed, or the machines are.
-fn play_line(
+fn play_line<P: Print>(
+    out: &mut Output<P>,
     b: Bench,
     s: &[u8],
     number: u64,
@@ -390,11 +435,11 @@ fn play_line(
     if n == 0 {
         return b;
     }
-    if bench_asking::answered(s, n, number) {
+    if bench_asking::answered(out, s, n, number) {
         return b;
     }
     let lengths = b.lengths;
-    let after = bench_line::change(s, n, number, lengths.line, line);
+    let after = bench_line::change(out, s, n, number, lengths.line, line);
     if after.is_own {
         let length = after.length;
         let mut t = b;
@@ -403,14 +448,15 @@ fn play_line(
     }
     let code = command(s, n);
     if code == 0 {
-        bench_say::unknown(number);
+        bench_say::unknown(out, number);
         return b;
     }
-    play_command(b, code, s, number, line, held, done, queue, last)
+    play_command(out, b, code, s, number, line, held, done, queue, last)
 }
 
 // The line under way, where it is not too long.
-fn play_pending(
+fn play_pending<P: Print>(
+    out: &mut Output<P>,
     b: Bench,
     p: Pending,
     input: &[u8],
@@ -422,33 +468,36 @@ fn play_pending(
     last: &mut [u8; 2349],
 ) -> Bench {
     if p.long {
-        bench_say::unknown(number);
+        bench_say::unknown(out, number);
         return b;
     }
     let e = least(p.end, input.len());
     let a = least(p.from, e);
     let s = bench_script::commands(&input[a..e], number == 1);
-    play_line(b, s, number, line, held, done, queue, last)
+    play_line(out, b, s, number, line, held, done, queue, last)
 }
 
 // The bench and its input; over once there is no more to play.
-#[derive(Drop)]
+#[derive(Clone, Copy)]
 struct Desk {
     bench: Bench,
     pending: Pending,
     over: bool,
 }
 
-fn is_failed() -> bool {
-    let failed = bench_say::failed();
+fn is_failed<P: Print>(out: &Output<P>, errors: &impl Print) -> bool {
+    let failed = bench_say::failed(out);
     if failed {
-        bench_say::complain(b"bench: standard output cannot be written\n");
+        bench_say::complain(errors, b"bench: standard output cannot be written\n");
     }
     failed
 }
 
 // The next line of standard input, with its number.
-fn play_next(
+fn play_next<P: Print, R: Read>(
+    out: &mut Output<P>,
+    errors: &impl Print,
+    reader: &mut R,
     d: Desk,
     number: u64,
     input: &mut [u8; 100001],
@@ -461,19 +510,22 @@ fn play_next(
     let mut t = d;
     let before = d.pending;
     let b = d.bench;
-    let p = bench_input::next_line(before, input);
+    let p = bench_input::next_line(reader, errors, before, input);
     t.pending = bench_input::behind(p);
     if bench_input::is_over(p) {
         t.over = true;
         return t;
     }
-    t.bench = play_pending(b, p, input, number, line, held, done, queue, last);
-    t.over = is_failed();
+    t.bench = play_pending(out, b, p, input, number, line, held, done, queue, last);
+    t.over = is_failed(out, errors);
     t
 }
 
-// The lines of standard input. They are counted down, from a number that no run uses up, so that the loop is seen to end.
-fn play_lines(
+// The lines of standard input. They are counted, up to a number that no run comes to, so that the loop is seen to end.
+fn play_lines<P: Print, R: Read>(
+    out: &mut Output<P>,
+    errors: &impl Print,
+    reader: &mut R,
     start: Desk,
     input: &mut [u8; 100001],
     line: &mut [u8; 4096],
@@ -483,19 +535,33 @@ fn play_lines(
     last: &mut [u8; 2349],
 ) {
     let mut d = start;
-    let mut left = u64::MAX;
-    while 0 < left {
-        let number = u64::MAX - left + 1;
-        d = play_next(d, number, input, line, held, done, queue, last);
+    for before in 0..u64::MAX {
+        d = play_next(
+            out,
+            errors,
+            reader,
+            d,
+            before + 1,
+            input,
+            line,
+            held,
+            done,
+            queue,
+            last,
+        );
         if d.over {
             return;
         }
-        left -= 1;
     }
 }
 
 // A script, on machines as they are at the start.
-fn play(input: &mut [u8; 100001]) {
+fn play<P: Print, R: Read>(
+    out: &mut Output<P>,
+    errors: &impl Print,
+    reader: &mut R,
+    input: &mut [u8; 100001],
+) {
     let mut line = [0u8; 4096];
     let mut held = [0u8; 4096];
     let mut done = [0u8; 4096];
@@ -520,18 +586,31 @@ fn play(input: &mut [u8; 100001]) {
         over: false,
     };
     play_lines(
-        start, input, &mut line, &mut held, &mut done, &mut queue, &mut last,
+        out, errors, reader, start, input, &mut line, &mut held, &mut done, &mut queue, &mut last,
     );
 }
 
-fn main() {
-    if 1 < os::arg_count() {
+// Whether the program was started with an argument.
+fn has_argument(rt: &impl Env) -> bool {
+    let mut none = [0u8; 1];
+    match rt.arg(1, &mut none) {
+        Err(FillError::NotPresent) => false,
+        _ => true,
+    }
+}
+
+fn main(rt: HostRuntime) {
+    let errors = rt.stderr();
+    if has_argument(&rt) {
         bench_say::complain(
+            &errors,
             b"usage: bench < SCRIPT, or bench alone, to type at it\nplays a script on a source, a line and a sink, and prints what they answer; docs/BENCH.md has its language\n",
         );
         return;
     }
+    let mut out = Output::new(rt.stdout());
+    let mut reader = rt.stdin();
     // one byte more than the longest line, for its LF
     let mut input = [0u8; 100001];
-    play(&mut input);
+    play(&mut out, &errors, &mut reader, &mut input);
 }

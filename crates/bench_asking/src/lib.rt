@@ -1,84 +1,86 @@
 // Commands that ask and change nothing: the catalogue's three, its import and export, and the host's three functions.
 #![tactic(auto)]
 
+use bench_say::Output;
 use bench_script::least;
 use catalogue::{Checked, Found};
 use exporting::Exported;
 use importing::Imported;
 use records::Refusal;
 
-fn say_refusal(what: &[u8], x: Refusal) {
+fn say_refusal<P: Print>(out: &mut Output<P>, what: &[u8], x: Refusal) {
     let places = records::named(x);
-    bench_say::refusal(what, records::number(x), places.first, places.second);
+    bench_say::refusal(out, what, records::number(x), places.first, places.second);
 }
 
 // `cat`
-fn check(s: &[u8]) {
+fn check<P: Print>(out: &mut Output<P>, s: &[u8]) {
     let c = catalogue::check(s);
     let checked = c.checked;
     match checked {
         Checked::Good(n) => {
-            bench_say::text(b"cat ok ");
-            bench_say::decimal(n as u64);
+            bench_say::text(out, b"cat ok ");
+            bench_say::decimal(out, n as u64);
         }
         Checked::Refused(x) => {
-            say_refusal(b"cat refused ", x);
+            say_refusal(out, b"cat refused ", x);
         }
     }
-    bench_say::text(b" pairs=");
-    bench_say::decimal(c.pairs as u64);
-    bench_say::text(b"\n");
+    bench_say::text(out, b" pairs=");
+    bench_say::decimal(out, c.pairs as u64);
+    bench_say::text(out, b"\n");
 }
 
 // `lookup`
-fn look_up(number: u32, s: &[u8]) {
+fn look_up<P: Print>(out: &mut Output<P>, number: u32, s: &[u8]) {
     let l = catalogue::lookup(s, number);
     let found = l.found;
     let characters = l.trace;
     match found {
         Found::Entry(label, flags) => {
-            bench_say::text(b"found ");
-            bench_say::hex(label);
-            bench_say::text(b" ");
-            bench_say::all(&characters);
-            bench_say::text(b" ");
-            bench_say::decimal(flags as u64);
+            bench_say::text(out, b"found ");
+            bench_say::hex(out, label);
+            bench_say::text(out, b" ");
+            bench_say::all(out, &characters);
+            bench_say::text(out, b" ");
+            bench_say::decimal(out, flags as u64);
         }
         Found::Not(x) => {
-            say_refusal(b"lookup refused ", x);
+            say_refusal(out, b"lookup refused ", x);
         }
     }
-    bench_say::text(b"\n");
+    bench_say::text(out, b"\n");
 }
 
 // `list`
-fn list(s: &[u8]) {
-    let mut out = [0u8; 15898];
-    let n = listing::list(s, &mut out);
-    bench_say::text(&out[..n]);
+fn list<P: Print>(out: &mut Output<P>, s: &[u8]) {
+    let mut made = [0u8; 15898];
+    let n = listing::list(s, &mut made);
+    bench_say::text(out, &made[..n]);
 }
 
 // What was asked for and good: bytes, which may be none.
-fn say_bytes(what: &[u8], s: &[u8]) {
-    bench_say::text(what);
+fn say_bytes<P: Print>(out: &mut Output<P>, what: &[u8], s: &[u8]) {
+    bench_say::text(out, what);
     if 0 < s.len() {
-        bench_say::text(b" ");
+        bench_say::text(out, b" ");
     }
-    bench_say::all(s);
-    bench_say::text(b"\n");
+    bench_say::all(out, s);
+    bench_say::text(out, b"\n");
 }
 
 // `import`
-fn import(s: &[u8]) {
-    let mut out = [0u8; 10752];
-    match importing::import(s, &mut out) {
+fn import<P: Print>(out: &mut Output<P>, s: &[u8]) {
+    let mut made = [0u8; 10752];
+    match importing::import(s, &mut made) {
         Imported::Good(k) => {
             let n = 21 * k;
-            say_bytes(b"import ok", &out[..n]);
+            say_bytes(out, b"import ok", &made[..n]);
         }
         Imported::Refused(x) => {
             let places = sheet_refusals::named(x);
             bench_say::refused(
+                out,
                 b"import refused ",
                 sheet_refusals::number(x),
                 places.first,
@@ -89,38 +91,38 @@ fn import(s: &[u8]) {
 }
 
 // `export`
-fn export(s: &[u8]) {
-    let mut out = [0u8; 23552];
-    match exporting::export(s, &mut out) {
+fn export<P: Print>(out: &mut Output<P>, s: &[u8]) {
+    let mut made = [0u8; 23552];
+    match exporting::export(s, &mut made) {
         Exported::Text(n) => {
-            say_bytes(b"export ok", &out[..n]);
+            say_bytes(out, b"export ok", &made[..n]);
         }
         Exported::Not(x) => {
-            say_refusal(b"export refused ", x);
-            bench_say::text(b"\n");
+            say_refusal(out, b"export refused ", x);
+            bench_say::text(out, b"\n");
         }
     }
 }
 
 // `parity`
-fn parity(s: &[u8]) {
-    bench_say::text(b"parity ");
-    bench_say::hex(parity::parity(s));
-    bench_say::text(b"\n");
+fn parity<P: Print>(out: &mut Output<P>, s: &[u8]) {
+    bench_say::text(out, b"parity ");
+    bench_say::hex(out, parity::parity(s));
+    bench_say::text(out, b"\n");
 }
 
 // `check`
-fn trace_check(s: &[u8]) {
-    bench_say::text(b"check ");
-    bench_say::bit(trace_message::trace_check(s));
-    bench_say::text(b"\n");
+fn trace_check<P: Print>(out: &mut Output<P>, s: &[u8]) {
+    bench_say::text(out, b"check ");
+    bench_say::bit(out, trace_message::trace_check(s));
+    bench_say::text(out, b"\n");
 }
 
 // `read`
-fn read(s: &[u8]) {
-    bench_say::text(b"read ");
-    bench_say::decimal(word::reading(s) as u64);
-    bench_say::text(b"\n");
+fn read<P: Print>(out: &mut Output<P>, s: &[u8]) {
+    bench_say::text(out, b"read ");
+    bench_say::decimal(out, word::reading(s) as u64);
+    bench_say::text(out, b"\n");
 }
 
 // ---- a line of the script
@@ -183,71 +185,77 @@ fn command(s: &[u8], n: usize) -> u8 {
 }
 
 // Those on bytes, `work` being where they go.
-fn ask(code: u8, s: &[u8], number: u64, work: &mut [u8]) {
+fn ask<P: Print>(out: &mut Output<P>, code: u8, s: &[u8], number: u64, work: &mut [u8]) {
     let n = bench_script::bytes(s, 1, work);
     let e = least(n.value as usize, work.len());
     if !n.good {
-        bench_say::unknown(number);
+        bench_say::unknown(out, number);
         return;
     }
     if code == CAT {
-        check(&work[..e]);
+        check(out, &work[..e]);
         return;
     }
     if code == LIST {
-        list(&work[..e]);
+        list(out, &work[..e]);
         return;
     }
     if code == IMPORT {
-        import(&work[..e]);
+        import(out, &work[..e]);
         return;
     }
     if code == EXPORT {
-        export(&work[..e]);
+        export(out, &work[..e]);
         return;
     }
     if code == PARITY {
-        parity(&work[..e]);
+        parity(out, &work[..e]);
         return;
     }
     if code == CHECK {
-        trace_check(&work[..e]);
+        trace_check(out, &work[..e]);
         return;
     }
-    read(&work[..e]);
+    read(out, &work[..e]);
 }
 
-fn lookup(s: &[u8], number: u64, work: &mut [u8]) {
+fn lookup<P: Print>(out: &mut Output<P>, s: &[u8], number: u64, work: &mut [u8]) {
     let circuit = bench_script::decimal(s, 1, 999999999);
     let n = bench_script::bytes(s, 2, work);
     let e = least(n.value as usize, work.len());
     if !(circuit.good & n.good) {
-        bench_say::unknown(number);
+        bench_say::unknown(out, number);
         return;
     }
-    look_up(circuit.value, &work[..e]);
+    look_up(out, circuit.value, &work[..e]);
 }
 
-fn answer_in(code: u8, s: &[u8], number: u64, work: &mut [u8; 50000]) {
+fn answer_in<P: Print>(
+    out: &mut Output<P>,
+    code: u8,
+    s: &[u8],
+    number: u64,
+    work: &mut [u8; 50000],
+) {
     if code == LOOKUP {
-        lookup(s, number, work);
+        lookup(out, s, number, work);
         return;
     }
-    ask(code, s, number, work);
+    ask(out, code, s, number, work);
 }
 
 // In a buffer for all the bytes that the longest line can give.
-fn answer(code: u8, s: &[u8], number: u64) {
+fn answer<P: Print>(out: &mut Output<P>, code: u8, s: &[u8], number: u64) {
     let mut work = [0u8; 50000];
-    answer_in(code, s, number, &mut work);
+    answer_in(out, code, s, number, &mut work);
 }
 
 // Whether a line of n words is a question. Then it is answered, or said not to be understood.
-pub fn answered(s: &[u8], n: usize, number: u64) -> bool {
+pub fn answered<P: Print>(out: &mut Output<P>, s: &[u8], n: usize, number: u64) -> bool {
     let code = command(s, n);
     if code == 0 {
         return false;
     }
-    answer(code, s, number);
+    answer(out, code, s, number);
     true
 }

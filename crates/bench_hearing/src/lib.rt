@@ -1,6 +1,7 @@
 // The receiving half of the bench: the sink's settings, the sink fed with the line, what it answers in print, and the payload call.
 #![tactic(auto)]
 
+use bench_say::Output;
 use receiving::{Ended, Told};
 use refusals::Answer;
 use settings::Settings;
@@ -8,11 +9,12 @@ use sink::Received;
 use unit_end::{Actions, Causes, Defects};
 
 // `rx`: says at once that every call with these settings will be refused, where it will.
-pub fn say_order(e: Settings) {
+pub fn say_order<P: Print>(out: &mut Output<P>, e: Settings) {
     let answer = settings::answer(e);
     match answer {
         Answer::Refused(_) => {
             bench_say::refused(
+                out,
                 b"rx refused ",
                 refusals::number(answer),
                 refusals::place(answer),
@@ -23,17 +25,17 @@ pub fn say_order(e: Settings) {
     }
 }
 
-fn say_state(s: pointer_state::State) {
+fn say_state<P: Print>(out: &mut Output<P>, s: pointer_state::State) {
     match s {
         pointer_state::State::Normal(offset) => {
-            bench_say::text(b"ok st=normal off=");
-            bench_say::decimal(offset as u64);
+            bench_say::text(out, b"ok st=normal off=");
+            bench_say::decimal(out, offset as u64);
         }
         pointer_state::State::Alarm => {
-            bench_say::text(b"ok st=alarm off=-");
+            bench_say::text(out, b"ok st=alarm off=-");
         }
         pointer_state::State::Lost => {
-            bench_say::text(b"ok st=lost off=-");
+            bench_say::text(out, b"ok st=lost off=-");
         }
     }
 }
@@ -46,100 +48,135 @@ fn keep(container: &[u8], last: &mut [u8]) {
 }
 
 // One container that ended: its bytes, as the view has them, and what is told of it.
-fn say_container(container: &[u8], told: Told, last: &mut [u8]) {
-    bench_say::text(b",");
-    bench_say::fnv(container);
+fn say_container<P: Print>(out: &mut Output<P>, container: &[u8], told: Told, last: &mut [u8]) {
+    bench_say::text(out, b",");
+    bench_say::fnv(out, container);
     let violations = overhead::violations(told.violated);
-    bench_say::text(b",v=");
-    bench_say::decimal(violations as u64);
+    bench_say::text(out, b",v=");
+    bench_say::decimal(out, violations as u64);
     if 0 < violations {
-        bench_say::text(b",p=");
-        bench_say::hex(told.violated);
+        bench_say::text(out, b",p=");
+        bench_say::hex(out, told.violated);
     }
-    bench_say::text(b",fe=");
-    bench_say::decimal(told.returned as u64);
+    bench_say::text(out, b",fe=");
+    bench_say::decimal(out, told.returned as u64);
     keep(container, last);
 }
 
 // The one completed is the first that ended.
-fn say_completed<'a>(x: Ended, unit: &'a [u8], done: &'a [u8], last: &mut [u8]) {
+fn say_completed<'a, P: Print>(
+    out: &mut Output<P>,
+    x: Ended,
+    unit: &'a [u8],
+    done: &'a [u8],
+    last: &mut [u8],
+) {
     let told = x.first;
     let shape = shape::au4_shape();
     if x.completed {
-        bench_say::text(b" c=D@0");
-        say_container(view::container(x, shape.size, done, unit, 0), told, last);
+        bench_say::text(out, b" c=D@0");
+        say_container(
+            out,
+            view::container(x, shape.size, done, unit, 0),
+            told,
+            last,
+        );
     }
 }
 
 // The one inside is behind it, where there is one.
-fn say_inside<'a>(x: Ended, unit: &'a [u8], done: &'a [u8], last: &mut [u8]) {
+fn say_inside<'a, P: Print>(
+    out: &mut Output<P>,
+    x: Ended,
+    unit: &'a [u8],
+    done: &'a [u8],
+    last: &mut [u8],
+) {
     let told = x.second;
     let shape = shape::au4_shape();
     if x.inside {
         let k = x.completed as usize;
-        bench_say::text(b" c=U@");
-        bench_say::decimal(x.place as u64);
-        say_container(view::container(x, shape.size, done, unit, k), told, last);
+        bench_say::text(out, b" c=U@");
+        bench_say::decimal(out, x.place as u64);
+        say_container(
+            out,
+            view::container(x, shape.size, done, unit, k),
+            told,
+            last,
+        );
     }
 }
 
-fn say_ended<'a>(x: Ended, unit: &'a [u8], done: &'a [u8], last: &mut [u8]) {
-    bench_say::text(b" ended=");
-    bench_say::decimal(x.number as u64);
-    say_completed(x, unit, done, last);
-    say_inside(x, unit, done, last);
+fn say_ended<'a, P: Print>(
+    out: &mut Output<P>,
+    x: Ended,
+    unit: &'a [u8],
+    done: &'a [u8],
+    last: &mut [u8],
+) {
+    bench_say::text(out, b" ended=");
+    bench_say::decimal(out, x.number as u64);
+    say_completed(out, x, unit, done, last);
+    say_inside(out, x, unit, done, last);
 }
 
-fn say_actions(a: Actions) {
-    bench_say::text(b" ssf=");
-    bench_say::bit(a.ssf);
-    bench_say::text(b" tsf=");
-    bench_say::bit(a.tsf);
-    bench_say::text(b" ais=");
-    bench_say::bit(a.ais);
-    bench_say::text(b" rdi=");
-    bench_say::bit(a.rdi);
+fn say_actions<P: Print>(out: &mut Output<P>, a: Actions) {
+    bench_say::text(out, b" ssf=");
+    bench_say::bit(out, a.ssf);
+    bench_say::text(out, b" tsf=");
+    bench_say::bit(out, a.tsf);
+    bench_say::text(out, b" ais=");
+    bench_say::bit(out, a.ais);
+    bench_say::text(out, b" rdi=");
+    bench_say::bit(out, a.rdi);
 }
 
-fn say_defects(d: Defects) {
-    bench_say::text(b" d=");
-    let uneq = bench_say::listed(false, d.uneq, b"dUNEQ");
-    let tim = bench_say::listed(uneq, d.tim, b"dTIM");
-    let plm = bench_say::listed(tim, d.plm, b"dPLM");
-    let rdi = bench_say::listed(plm, d.rdi, b"dRDI");
-    bench_say::listed_all(rdi);
+fn say_defects<P: Print>(out: &mut Output<P>, d: Defects) {
+    bench_say::text(out, b" d=");
+    let uneq = bench_say::listed(out, false, d.uneq, b"dUNEQ");
+    let tim = bench_say::listed(out, uneq, d.tim, b"dTIM");
+    let plm = bench_say::listed(out, tim, d.plm, b"dPLM");
+    let rdi = bench_say::listed(out, plm, d.rdi, b"dRDI");
+    bench_say::listed_all(out, rdi);
 }
 
-fn say_causes(c: Causes) {
-    bench_say::text(b" cause=");
-    let ais = bench_say::listed(false, c.ais, b"cAIS");
-    let lop = bench_say::listed(ais, c.lop, b"cLOP");
-    let ssf = bench_say::listed(lop, c.ssf, b"cSSF");
-    let uneq = bench_say::listed(ssf, c.uneq, b"cUNEQ");
-    let tim = bench_say::listed(uneq, c.tim, b"cTIM");
-    let rdi = bench_say::listed(tim, c.rdi, b"cRDI");
-    let plm = bench_say::listed(rdi, c.plm, b"cPLM");
-    bench_say::listed_all(plm);
+fn say_causes<P: Print>(out: &mut Output<P>, c: Causes) {
+    bench_say::text(out, b" cause=");
+    let ais = bench_say::listed(out, false, c.ais, b"cAIS");
+    let lop = bench_say::listed(out, ais, c.lop, b"cLOP");
+    let ssf = bench_say::listed(out, lop, c.ssf, b"cSSF");
+    let uneq = bench_say::listed(out, ssf, c.uneq, b"cUNEQ");
+    let tim = bench_say::listed(out, uneq, c.tim, b"cTIM");
+    let rdi = bench_say::listed(out, tim, c.rdi, b"cRDI");
+    let plm = bench_say::listed(out, rdi, c.plm, b"cPLM");
+    bench_say::listed_all(out, plm);
 }
 
-fn say_held(n: usize) {
-    bench_say::text(b" held=");
-    bench_say::decimal(n as u64);
+fn say_held<P: Print>(out: &mut Output<P>, n: usize) {
+    bench_say::text(out, b" held=");
+    bench_say::decimal(out, n as u64);
 }
 
-fn say_end(settled: bool, total: u16, held: &[u8], done: &[u8]) {
-    bench_say::text(b" settled=");
-    bench_say::bit(settled);
-    bench_say::text(b" total=");
-    bench_say::decimal(total as u64);
-    bench_say::text(b" hb=");
-    bench_say::fnv(held);
-    bench_say::text(b" db=");
-    bench_say::fnv(done);
-    bench_say::text(b"\n");
+fn say_end<P: Print>(out: &mut Output<P>, settled: bool, total: u16, held: &[u8], done: &[u8]) {
+    bench_say::text(out, b" settled=");
+    bench_say::bit(out, settled);
+    bench_say::text(out, b" total=");
+    bench_say::decimal(out, total as u64);
+    bench_say::text(out, b" hb=");
+    bench_say::fnv(out, held);
+    bench_say::text(out, b" db=");
+    bench_say::fnv(out, done);
+    bench_say::text(out, b"\n");
 }
 
-fn say_received<'a>(r: Received, unit: &'a [u8], held: &[u8], done: &'a [u8], last: &mut [u8]) {
+fn say_received<'a, P: Print>(
+    out: &mut Output<P>,
+    r: Received,
+    unit: &'a [u8],
+    held: &[u8],
+    done: &'a [u8],
+    last: &mut [u8],
+) {
     let s = r.state;
     let p = s.pointer;
     let state = p.state;
@@ -147,17 +184,18 @@ fn say_received<'a>(r: Received, unit: &'a [u8], held: &[u8], done: &'a [u8], la
     let a = r.actions;
     let d = r.defects;
     let c = r.causes;
-    say_state(state);
-    say_held(s.held);
-    say_ended(ended, unit, done, last);
-    say_actions(a);
-    say_defects(d);
-    say_causes(c);
-    say_end(r.settled, s.total, held, done);
+    say_state(out, state);
+    say_held(out, s.held);
+    say_ended(out, ended, unit, done, last);
+    say_actions(out, a);
+    say_defects(out, d);
+    say_causes(out, c);
+    say_end(out, r.settled, s.total, held, done);
 }
 
 // `sink`: the sink is fed the unit.
-pub fn feed(
+pub fn feed<P: Print>(
+    out: &mut Output<P>,
     s: sink::State,
     e: Settings,
     unit: &[u8],
@@ -170,6 +208,7 @@ pub fn feed(
     match answer {
         Answer::Refused(_) => {
             bench_say::refused(
+                out,
                 b"refused ",
                 refusals::number(answer),
                 refusals::place(answer),
@@ -179,17 +218,18 @@ pub fn feed(
         }
         Answer::Done => {}
     }
-    say_received(r, unit, held, done, last);
+    say_received(out, r, unit, held, done, last);
     r.state
 }
 
 // `payload`: of the container handed back last.
-pub fn payload(ais: bool, last: &[u8]) {
-    let mut out = [0xeeu8; 2340];
-    let answer = container::payload_call(last, ais, &mut out);
+pub fn payload<P: Print>(out: &mut Output<P>, ais: bool, last: &[u8]) {
+    let mut bytes = [0xeeu8; 2340];
+    let answer = container::payload_call(last, ais, &mut bytes);
     match answer {
         Answer::Refused(_) => {
             bench_say::refused(
+                out,
                 b"payload refused ",
                 refusals::number(answer),
                 refusals::place(answer),
@@ -199,7 +239,7 @@ pub fn payload(ais: bool, last: &[u8]) {
         }
         Answer::Done => {}
     }
-    bench_say::text(b"payload fnv=");
-    bench_say::fnv(&out);
-    bench_say::text(b"\n");
+    bench_say::text(out, b"payload fnv=");
+    bench_say::fnv(out, &bytes);
+    bench_say::text(out, b"\n");
 }

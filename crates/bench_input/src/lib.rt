@@ -4,11 +4,11 @@
 ghost use Rattle.std.specs.Prelude.{◌+◌, ◌≤◌, length};
 
 use bench_script::least;
-use libc::STDIN_FILENO;
+use std::io::Read;
 
 // What was read and not played yet stands in the buffer from `from` to `to`; `end` is where the line under way ends, once that is known. A line that does not fit is long, and
 // its bytes are dropped. Behind the end of the input there is no more to read.
-#[derive(Drop)]
+#[derive(Clone, Copy)]
 pub struct Pending {
     pub from: usize,
     pub to: usize,
@@ -88,29 +88,34 @@ fn end_of_input(p: Pending) -> Pending {
 }
 
 // How many bytes a read gave, and whether it failed.
-#[derive(Drop)]
+#[derive(Clone, Copy)]
 struct Got {
     bytes: usize,
     failed: bool,
 }
 
 // One read. A failure is said.
-fn read(part: &mut [u8]) -> Got {
-    let got = libc::read(STDIN_FILENO, part);
-    if got < 0 {
-        bench_say::complain(b"bench: standard input cannot be read\n");
-    }
-    Got {
-        bytes: io::count(got, part),
-        failed: got < 0,
+fn read<R: Read>(reader: &mut R, errors: &impl Print, part: &mut [u8]) -> Got {
+    match reader.read(part) {
+        Ok(bytes) => Got {
+            bytes,
+            failed: false,
+        },
+        Err(_) => {
+            bench_say::complain(errors, b"bench: standard input cannot be read\n");
+            Got {
+                bytes: 0,
+                failed: true,
+            }
+        }
     }
 }
 
 // One read more, behind what is under way. Where it fails nothing more is played.
-fn more(p: Pending, input: &mut [u8]) -> Pending {
+fn more<R: Read>(reader: &mut R, errors: &impl Print, p: Pending, input: &mut [u8]) -> Pending {
     let q = at_front(p, input);
     let at = least(q.to, input.len());
-    let got = read(&mut input[at..]);
+    let got = read(reader, errors, &mut input[at..]);
     if got.failed {
         return end_of_input(nothing());
     }
@@ -127,11 +132,15 @@ fn more(p: Pending, input: &mut [u8]) -> Pending {
     }
 }
 
-// The next line: it stands from `from` to `end`. A proved loop has to end, and nothing says that the input does: so the reads are counted down, from a number that no run uses up.
-pub fn next_line(before: Pending, input: &mut [u8; 100001]) -> Pending {
+// The next line: it stands from `from` to `end`. A proved loop has to end, and nothing says that the input does: so the reads are counted, up to a number that no run comes to.
+pub fn next_line<R: Read>(
+    reader: &mut R,
+    errors: &impl Print,
+    before: Pending,
+    input: &mut [u8; 100001],
+) -> Pending {
     let mut p = before;
-    let mut left = u64::MAX;
-    while 0 < left {
+    for _ in 0..u64::MAX {
         let e = line_end(p, input);
         if e < p.to {
             return Pending {
@@ -145,8 +154,7 @@ pub fn next_line(before: Pending, input: &mut [u8; 100001]) -> Pending {
         if p.ended {
             return p;
         }
-        p = more(p, input);
-        left -= 1;
+        p = more(reader, errors, p, input);
     }
     p
 }

@@ -1,10 +1,11 @@
 // Commands about the line, the unit under way: its word overwritten, a byte damaged, all ones, its length, its bytes shown.
 #![tactic(auto)]
 
+use bench_say::Output;
 use bench_script::least;
 
 // Whether a line of the script was such a command, and how long the bench's line is then.
-#[derive(Drop)]
+#[derive(Clone, Copy)]
 pub struct Changed {
     pub is_own: bool,
     pub length: usize,
@@ -48,46 +49,52 @@ pub fn clear(line: &mut [u8], from: usize, to: usize) {
     copier::fill(&mut line[a..e], 0);
 }
 
-fn overwrite(s: &[u8], number: u64, unit: &mut [u8]) {
+fn overwrite<P: Print>(out: &mut Output<P>, s: &[u8], number: u64, unit: &mut [u8]) {
     let w = bench_script::hex(s, 1, 2);
     if !w.good {
-        bench_say::unknown(number);
+        bench_say::unknown(out, number);
         return;
     }
     if unit.len() < 4 {
-        bench_say::unknown(number);
+        bench_say::unknown(out, number);
         return;
     }
     unit[0] = (w.value / 256 % 256) as u8;
     unit[3] = (w.value % 256) as u8;
 }
 
-fn damage(s: &[u8], number: u64, unit: &mut [u8]) {
+fn damage<P: Print>(out: &mut Output<P>, s: &[u8], number: u64, unit: &mut [u8]) {
     let i = bench_script::decimal(s, 1, 4095);
     let b = bench_script::hex(s, 2, 1);
     let k = i.value as usize;
     if !(i.good & b.good) {
-        bench_say::unknown(number);
+        bench_say::unknown(out, number);
         return;
     }
     if unit.len() <= k {
-        bench_say::unknown(number);
+        bench_say::unknown(out, number);
         return;
     }
     unit[k] = unit[k] ^ (b.value % 256) as u8;
 }
 
-fn show(unit: &[u8]) {
-    bench_say::text(b"line ");
-    bench_say::all(unit);
-    bench_say::text(b"\n");
+fn show<P: Print>(out: &mut Output<P>, unit: &[u8]) {
+    bench_say::text(out, b"line ");
+    bench_say::all(out, unit);
+    bench_say::text(out, b"\n");
 }
 
 // `len`: how long the line is then.
-fn measure(s: &[u8], number: u64, length: usize, line: &mut [u8]) -> usize {
+fn measure<P: Print>(
+    out: &mut Output<P>,
+    s: &[u8],
+    number: u64,
+    length: usize,
+    line: &mut [u8],
+) -> usize {
     let n = bench_script::decimal(s, 1, 4096);
     if !n.good {
-        bench_say::unknown(number);
+        bench_say::unknown(out, number);
         return length;
     }
     let k = n.value as usize;
@@ -96,14 +103,21 @@ fn measure(s: &[u8], number: u64, length: usize, line: &mut [u8]) -> usize {
 }
 
 // One of the commands; how long the line is then.
-fn on_line(code: u8, s: &[u8], number: u64, length: usize, line: &mut [u8]) -> usize {
+fn on_line<P: Print>(
+    out: &mut Output<P>,
+    code: u8,
+    s: &[u8],
+    number: u64,
+    length: usize,
+    line: &mut [u8],
+) -> usize {
     let n = least(length, line.len());
     if code == WORD {
-        overwrite(s, number, &mut line[..n]);
+        overwrite(out, s, number, &mut line[..n]);
         return length;
     }
     if code == XOR {
-        damage(s, number, &mut line[..n]);
+        damage(out, s, number, &mut line[..n]);
         return length;
     }
     if code == ONES {
@@ -111,14 +125,21 @@ fn on_line(code: u8, s: &[u8], number: u64, length: usize, line: &mut [u8]) -> u
         return length;
     }
     if code == SHOW {
-        show(&line[..n]);
+        show(out, &line[..n]);
         return length;
     }
-    measure(s, number, length, line)
+    measure(out, s, number, length, line)
 }
 
 // The command of a line of n words, where it is one about the bench's line.
-pub fn change(s: &[u8], n: usize, number: u64, length: usize, line: &mut [u8]) -> Changed {
+pub fn change<P: Print>(
+    out: &mut Output<P>,
+    s: &[u8],
+    n: usize,
+    number: u64,
+    length: usize,
+    line: &mut [u8],
+) -> Changed {
     let code = command(s, n);
     if code == 0 {
         return Changed {
@@ -128,6 +149,6 @@ pub fn change(s: &[u8], n: usize, number: u64, length: usize, line: &mut [u8]) -
     }
     Changed {
         is_own: true,
-        length: on_line(code, s, number, length, line),
+        length: on_line(out, code, s, number, length, line),
     }
 }

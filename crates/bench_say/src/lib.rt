@@ -2,100 +2,127 @@
 // A piece that standard output does not take is lost; `failed` says that there was one.
 #![tactic(auto)]
 
-use libc::{STDERR_FILENO, STDOUT_FILENO};
-
-pub fn text(s: &[u8]) {
-    io::write_all(STDOUT_FILENO, s);
+// Where the bench prints: standard output, and whether it has not taken a piece so far.
+#[derive(Drop)]
+pub struct Output<P> {
+    to: P,
+    failed: bool,
 }
 
-// What is wrong with the bench's own input or output, or with how it was started.
-pub fn complain(s: &[u8]) {
-    io::write_all(STDERR_FILENO, s);
+impl<P: Print> Output<P> {
+    pub fn new(to: P) -> Output<P> {
+        Output { to, failed: false }
+    }
 }
 
-// Whether a call of the system has failed so far: then C's errno is not 0. Nothing but reading and writing is asked of it here.
-pub fn failed() -> bool {
-    os::errno() != 0
+pub fn text<P: Print>(out: &mut Output<P>, s: &[u8]) {
+    let taken = out.to.write_all(s).is_ok();
+    if !taken {
+        out.failed = true;
+    }
 }
 
-pub fn decimal(n: u64) {
-    io::print_decimal(STDOUT_FILENO, n);
+// What is wrong with the bench's own input or output, or with how it was started. Where standard error does not take it, it is lost.
+pub fn complain(errors: &impl Print, s: &[u8]) {
+    let _ = errors.write_all(s);
 }
 
-pub fn bit(b: bool) {
+// Whether a piece was not taken so far.
+pub fn failed<P: Print>(out: &Output<P>) -> bool {
+    out.failed
+}
+
+pub fn decimal<P: Print>(out: &mut Output<P>, n: u64) {
+    let taken = out.to.print(n).is_ok();
+    if !taken {
+        out.failed = true;
+    }
+}
+
+pub fn bit<P: Print>(out: &mut Output<P>, b: bool) {
     if b {
-        text(b"1");
+        text(out, b"1");
         return;
     }
-    text(b"0");
+    text(out, b"0");
 }
 
 // A byte in two capital hex digits.
-pub fn hex(b: u8) {
-    let mut out = [0u8; 2];
-    text::hex(&mut out, 0, b);
-    io::write_all(STDOUT_FILENO, &out);
+pub fn hex<P: Print>(out: &mut Output<P>, b: u8) {
+    let mut digits = [0u8; 2];
+    text::hex(&mut digits, 0, b);
+    text(out, &digits);
 }
 
 // The bytes, one after the other.
-pub fn all(s: &[u8]) {
-    let mut i = 0;
-    while i < s.len() {
-        hex(s[i]);
-        i += 1;
+pub fn all<P: Print>(out: &mut Output<P>, s: &[u8]) {
+    for b in s {
+        hex(out, *b);
     }
 }
 
-fn comma(any: bool) {
+fn comma<P: Print>(out: &mut Output<P>, any: bool) {
     if any {
-        text(b",");
+        text(out, b",");
     }
 }
 
 // One of a list of names, where it stands. Whether any stands so far.
-pub fn listed(any: bool, stands: bool, name: &[u8]) -> bool {
+pub fn listed<P: Print>(out: &mut Output<P>, any: bool, stands: bool, name: &[u8]) -> bool {
     if !stands {
         return any;
     }
-    comma(any);
-    text(name);
+    comma(out, any);
+    text(out, name);
     true
 }
 
 // The end of such a list.
-pub fn listed_all(any: bool) {
+pub fn listed_all<P: Print>(out: &mut Output<P>, any: bool) {
     if !any {
-        text(b"-");
+        text(out, b"-");
     }
 }
 
 // A line that is not understood.
-pub fn unknown(number: u64) {
-    text(b"? ");
-    decimal(number);
-    text(b"\n");
+pub fn unknown<P: Print>(out: &mut Output<P>, number: u64) {
+    text(out, b"? ");
+    decimal(out, number);
+    text(out, b"\n");
 }
 
 // A place, where there is one.
-fn place(p: usize) {
+fn place<P: Print>(out: &mut Output<P>, p: usize) {
     if 0 < p {
-        text(b" ");
-        decimal(p as u64);
+        text(out, b" ");
+        decimal(out, p as u64);
     }
 }
 
 // What was refused, the refusal's number, and the places that it names, at most two, 0 for none.
-pub fn refusal(what: &[u8], number: u8, first: usize, second: usize) {
-    text(what);
-    decimal(number as u64);
-    place(first);
-    place(second);
+pub fn refusal<P: Print>(
+    out: &mut Output<P>,
+    what: &[u8],
+    number: u8,
+    first: usize,
+    second: usize,
+) {
+    text(out, what);
+    decimal(out, number as u64);
+    place(out, first);
+    place(out, second);
 }
 
 // The same as a line.
-pub fn refused(what: &[u8], number: u8, first: usize, second: usize) {
-    refusal(what, number, first, second);
-    text(b"\n");
+pub fn refused<P: Print>(
+    out: &mut Output<P>,
+    what: &[u8],
+    number: u8,
+    first: usize,
+    second: usize,
+) {
+    refusal(out, what, number, first, second);
+    text(out, b"\n");
 }
 
 fn multiplied(x: u32) -> u32 {
@@ -107,20 +134,18 @@ fn stirred(h: u32, b: u8) -> u32 {
 }
 
 // A number in eight digits.
-fn eight(h: u32) {
-    hex((h / 16777216) as u8);
-    hex((h / 65536 % 256) as u8);
-    hex((h / 256 % 256) as u8);
-    hex((h % 256) as u8);
+fn eight<P: Print>(out: &mut Output<P>, h: u32) {
+    hex(out, (h / 16777216) as u8);
+    hex(out, (h / 65536 % 256) as u8);
+    hex(out, (h / 256 % 256) as u8);
+    hex(out, (h % 256) as u8);
 }
 
 // 32-bit FNV-1a of the bytes, in eight digits.
-pub fn fnv(s: &[u8]) {
+pub fn fnv<P: Print>(out: &mut Output<P>, s: &[u8]) {
     let mut h = 2166136261u32;
-    let mut i = 0;
-    while i < s.len() {
-        h = stirred(h, s[i]);
-        i += 1;
+    for b in s {
+        h = stirred(h, *b);
     }
-    eight(h);
+    eight(out, h);
 }

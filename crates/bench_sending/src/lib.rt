@@ -1,6 +1,7 @@
 // The sending half of the bench: a container source and a unit source, a queue of two containers, and what the container source is given.
 #![tactic(auto)]
 
+use bench_say::Output;
 use bench_script::least;
 use container_source::{Given, Unexamined};
 use refusals::{Answer, Refusal};
@@ -8,7 +9,7 @@ use shape::Adjustment;
 use unit_source::Made;
 
 // The two sources; how many containers are queued; the seed of the next payload.
-#[derive(Drop)]
+#[derive(Clone, Copy)]
 pub struct Sources {
     pub containers: container_source::State,
     pub units: unit_source::State,
@@ -17,7 +18,7 @@ pub struct Sources {
 }
 
 // What the container source is given.
-#[derive(Drop)]
+#[derive(Clone, Copy)]
 pub struct Sent {
     pub label: u8,
     pub trace: [u8; 15],
@@ -26,7 +27,7 @@ pub struct Sent {
 }
 
 // After a command: the sources, and how long the line is.
-#[derive(Drop)]
+#[derive(Clone, Copy)]
 pub struct Line {
     pub sources: Sources,
     pub length: usize,
@@ -58,11 +59,12 @@ fn order(x: Sent) -> Answer {
 }
 
 // `tx`: says at once that the settings will be refused, where they will.
-pub fn say_order(x: Sent) {
+pub fn say_order<P: Print>(out: &mut Output<P>, x: Sent) {
     let answer = order(x);
     match answer {
         Answer::Refused(_) => {
             bench_say::refused(
+                out,
                 b"tx refused ",
                 refusals::number(answer),
                 refusals::place(answer),
@@ -97,7 +99,7 @@ fn after(n: u32) -> u32 {
 }
 
 // One container more, into the queue's next place; none where the source refuses it.
-fn queue_one(q: Sources, x: Sent, container: &mut [u8]) -> Sources {
+fn queue_one<P: Print>(out: &mut Output<P>, q: Sources, x: Sent, container: &mut [u8]) -> Sources {
     let mut bytes = [0u8; 2340];
     payload(q.seed, &mut bytes);
     let given = Given {
@@ -119,6 +121,7 @@ fn queue_one(q: Sources, x: Sent, container: &mut [u8]) -> Sources {
     match answer {
         Answer::Refused(_) => {
             bench_say::refused(
+                out,
                 b"container refused ",
                 refusals::number(answer),
                 refusals::place(answer),
@@ -146,19 +149,19 @@ fn if_less(n: u8) -> u8 {
 }
 
 // The queue, filled to two: the first container is its first half.
-fn fill(q: Sources, x: Sent, queue: &mut [u8]) -> Sources {
+fn fill<P: Print>(out: &mut Output<P>, q: Sources, x: Sent, queue: &mut [u8]) -> Sources {
     let k = least(2349, queue.len());
     if 1 < q.queued {
         return q;
     }
     if q.queued == 1 {
-        return queue_one(q, x, &mut queue[k..]);
+        return queue_one(out, q, x, &mut queue[k..]);
     }
-    let one = queue_one(q, x, &mut queue[..k]);
+    let one = queue_one(out, q, x, &mut queue[..k]);
     if one.queued == 0 {
         return one;
     }
-    queue_one(one, x, &mut queue[k..])
+    queue_one(out, one, x, &mut queue[k..])
 }
 
 // Where one container ended, the second becomes the first.
@@ -180,23 +183,23 @@ fn left_of(queued: u8, ended: u8) -> u8 {
 }
 
 // H1 and H2.
-fn say_word(unit: &[u8]) {
+fn say_word<P: Print>(out: &mut Output<P>, unit: &[u8]) {
     if 4 <= unit.len() {
-        bench_say::hex(unit[0]);
-        bench_say::hex(unit[3]);
+        bench_say::hex(out, unit[0]);
+        bench_say::hex(out, unit[3]);
     }
 }
 
-fn say_unit(unit: &[u8], ended: u8, offset: u16) {
-    bench_say::text(b"unit ended=");
-    bench_say::decimal(ended as u64);
-    bench_say::text(b" word=");
-    say_word(unit);
-    bench_say::text(b" fnv=");
-    bench_say::fnv(unit);
-    bench_say::text(b" off=");
-    bench_say::decimal(offset as u64);
-    bench_say::text(b"\n");
+fn say_unit<P: Print>(out: &mut Output<P>, unit: &[u8], ended: u8, offset: u16) {
+    bench_say::text(out, b"unit ended=");
+    bench_say::decimal(out, ended as u64);
+    bench_say::text(out, b" word=");
+    say_word(out, unit);
+    bench_say::text(out, b" fnv=");
+    bench_say::fnv(out, unit);
+    bench_say::text(out, b" off=");
+    bench_say::decimal(out, offset as u64);
+    bench_say::text(out, b"\n");
 }
 
 // The sources after a unit in which so many containers ended.
@@ -218,13 +221,20 @@ fn next_unit(s: unit_source::State, a: Adjustment, queue: &[u8], unit: &mut [u8]
     unit_source::unit_source(s, a, &queue[..k], &queue[k..], unit)
 }
 
-fn send_unit(q: Sources, a: Adjustment, queue: &mut [u8], unit: &mut [u8]) -> Sources {
+fn send_unit<P: Print>(
+    out: &mut Output<P>,
+    q: Sources,
+    a: Adjustment,
+    queue: &mut [u8],
+    unit: &mut [u8],
+) -> Sources {
     let state = q.units;
     let made = next_unit(state, a, queue, unit);
     let answer = made.answer;
     match answer {
         Answer::Refused(_) => {
             bench_say::refused(
+                out,
                 b"unit refused ",
                 refusals::number(answer),
                 refusals::place(answer),
@@ -235,13 +245,14 @@ fn send_unit(q: Sources, a: Adjustment, queue: &mut [u8], unit: &mut [u8]) -> So
         Answer::Done => {}
     }
     let units = made.state;
-    say_unit(unit, made.ended, units.offset);
+    say_unit(out, unit, made.ended, units.offset);
     move_up(made.ended, queue);
     after_unit(q, units, made.ended)
 }
 
 // `src`: the queue filled, and the next unit written.
-pub fn send(
+pub fn send<P: Print>(
+    out: &mut Output<P>,
     q: Sources,
     x: Sent,
     a: Adjustment,
@@ -249,7 +260,7 @@ pub fn send(
     queue: &mut [u8],
     line: &mut [u8],
 ) -> Line {
-    let full = fill(q, x, queue);
+    let full = fill(out, q, x, queue);
     if full.queued < 2 {
         return Line {
             sources: full,
@@ -258,6 +269,6 @@ pub fn send(
     }
     bench_line::clear(line, length, 2358);
     let n = least(2358, line.len());
-    let sources = send_unit(full, a, queue, &mut line[..n]);
+    let sources = send_unit(out, full, a, queue, &mut line[..n]);
     Line { sources, length: n }
 }

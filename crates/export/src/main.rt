@@ -2,35 +2,44 @@
 #![tactic(auto)]
 
 use exporting::Exported;
-use libc::STDIN_FILENO;
 
-fn export(s: &[u8]) {
+fn export(out: &impl Print, errors: &impl Print, s: &[u8]) {
     let mut text = [0u8; 23552];
     match exporting::export(s, &mut text) {
         Exported::Text(n) => {
-            programs::print(b"export", &text[..n]);
+            programs::print(out, errors, b"export", &text[..n]);
         }
         Exported::Not(x) => {
-            programs::refuse(b"export", b"record", records::number(x), records::named(x));
+            programs::refuse(
+                out,
+                errors,
+                b"export",
+                b"record",
+                records::number(x),
+                records::named(x),
+            );
         }
     }
 }
 
-fn main() {
-    if 1 < os::arg_count() {
+fn main(rt: HostRuntime) {
+    let errors = rt.stderr();
+    if programs::has_argument(&rt) {
         programs::complain(
+            &errors,
             b"usage: export < CATALOGUE > TEXT\nprints a line for each circuit, as 7,12,\"03E5           \",15; for a refused catalogue one line instead, the refusal's number and the places, and says it in words here\n",
         );
         return;
     }
+    let mut input = rt.stdin();
     // one byte more than the longest catalogue, so that a longer file is seen to be longer
     let mut file = [0u8; 10753];
-    let n = io::read_full(STDIN_FILENO, &mut file);
+    let n = programs::read_full(&mut input, &mut file);
     if n < 10753 {
-        if !programs::ended() {
-            programs::cannot_read(b"export");
+        if !programs::ended(&mut input) {
+            programs::cannot_read(&errors, b"export");
             return;
         }
     }
-    export(&file[..n]);
+    export(&rt.stdout(), &errors, &file[..n]);
 }

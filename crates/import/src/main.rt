@@ -2,8 +2,8 @@
 #![tactic(auto)]
 
 use importing::Imported;
-use libc::STDIN_FILENO;
 use sheet_refusals::Refusal;
+use std::io::Read;
 
 const LF: u8 = 0x0a;
 
@@ -23,45 +23,45 @@ fn counted(before: usize, s: &[u8]) -> usize {
 }
 
 // How many lines were read so far: their LFs, up to 513, and whether a line is under way behind the last.
-#[derive(Drop)]
-struct Read {
+#[derive(Clone, Copy)]
+struct Lines {
     ended: usize,
     open: bool,
 }
 
-fn read_on(r: Read, s: &[u8]) -> Read {
+fn read_on(r: Lines, s: &[u8]) -> Lines {
     let n = s.len();
     if n == 0 {
         return r;
     }
-    Read {
+    Lines {
         ended: counted(r.ended, s),
         open: s[n - 1] != LF,
     }
 }
 
-fn too_many(r: Read) -> bool {
+fn too_many(r: Lines) -> bool {
     (512 < r.ended) | ((r.ended == 512) & r.open)
 }
 
 // The lines of a text of which this much was read: the rest is read a piece at a time, and not kept.
-fn read_rest(start: Read) -> Read {
+fn read_rest<R: Read>(start: Lines, input: &mut R) -> Lines {
     let mut r = start;
-    let mut left = u64::MAX;
-    while 0 < left {
+    for _ in 0..u64::MAX {
         let mut piece = [0u8; 4096];
-        let n = io::read_full(STDIN_FILENO, &mut piece);
+        let n = programs::read_full(input, &mut piece);
         if n == 0 {
             return r;
         }
         r = read_on(r, &piece[..n]);
-        left -= 1;
     }
     r
 }
 
-fn refuse(x: Refusal) {
+fn refuse(out: &impl Print, errors: &impl Print, x: Refusal) {
     programs::refuse(
+        out,
+        errors,
         b"import",
         b"line",
         sheet_refusals::number(x),
@@ -69,42 +69,46 @@ fn refuse(x: Refusal) {
     );
 }
 
-fn import(s: &[u8]) {
+fn import(out: &impl Print, errors: &impl Print, s: &[u8]) {
     let mut catalogue = [0u8; 10752];
     match importing::import(s, &mut catalogue) {
         Imported::Good(k) => {
             let n = 21 * k;
-            programs::print(b"import", &catalogue[..n]);
+            programs::print(out, errors, b"import", &catalogue[..n]);
         }
         Imported::Refused(x) => {
-            refuse(x);
+            refuse(out, errors, x);
         }
     }
 }
 
-fn main() {
-    if 1 < os::arg_count() {
+fn main(rt: HostRuntime) {
+    let errors = rt.stderr();
+    if programs::has_argument(&rt) {
         programs::complain(
+            &errors,
             b"usage: import < TEXT > CATALOGUE\nTEXT has lines as 7,12,\"03E5\",15: circuit number, label in two hex digits, trace in double quotes, flags\nprints the catalogue; for a refused text one line instead, the refusal's number and the places, and says it in words here\n",
         );
         return;
     }
+    let mut input = rt.stdin();
+    let out = rt.stdout();
     // One byte more than 512 lines of 80 bytes and their LFs. A longer text has more than 512 lines, or a line that is too long among these bytes:
     // of the rest only the number of its lines counts.
     let mut text = [0u8; 41473];
-    let n = io::read_full(STDIN_FILENO, &mut text);
-    let start = Read {
+    let n = programs::read_full(&mut input, &mut text);
+    let start = Lines {
         ended: 0,
         open: false,
     };
-    let r = read_rest(read_on(start, &text[..n]));
-    if !programs::ended() {
-        programs::cannot_read(b"import");
+    let r = read_rest(read_on(start, &text[..n]), &mut input);
+    if !programs::ended(&mut input) {
+        programs::cannot_read(&errors, b"import");
         return;
     }
     if too_many(r) {
-        refuse(Refusal::TooMany);
+        refuse(&out, &errors, Refusal::TooMany);
         return;
     }
-    import(&text[..n]);
+    import(&out, &errors, &text[..n]);
 }

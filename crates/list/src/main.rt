@@ -1,25 +1,26 @@
 // Prints the listing of a catalogue that comes in on standard input.
 #![tactic(auto)]
 
-use libc::STDIN_FILENO;
-
-fn main() {
-    if 1 < os::arg_count() {
+fn main(rt: HostRuntime) {
+    let errors = rt.stderr();
+    if programs::has_argument(&rt) {
         programs::complain(
+            &errors,
             b"usage: list < CATALOGUE\nprints a line for each circuit, or for a refused catalogue the refusal's number and the places\n",
         );
         return;
     }
+    let mut input = rt.stdin();
     // one byte more than the longest catalogue, so that a longer file is seen to be longer
     let mut file = [0u8; 10753];
-    let n = io::read_full(STDIN_FILENO, &mut file);
+    let n = programs::read_full(&mut input, &mut file);
     if n < 10753 {
-        if !programs::ended() {
-            programs::cannot_read(b"list");
+        if !programs::ended(&mut input) {
+            programs::cannot_read(&errors, b"list");
             return;
         }
     }
     let mut text = [0u8; 15898];
     let m = listing::list(&file[..n], &mut text);
-    programs::print(b"list", &text[..m]);
+    programs::print(&rt.stdout(), &errors, b"list", &text[..m]);
 }
