@@ -280,10 +280,8 @@ fn turns<P: Print>(
     last: &mut [u8; 2349],
 ) -> Bench {
     let mut b = start;
-    let mut left = n;
-    while 0 < left {
+    for _ in 0..n {
         b = turn(out, b, line, held, done, queue, last);
-        left -= 1;
     }
     b
 }

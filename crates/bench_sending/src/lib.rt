@@ -86,11 +86,9 @@ fn top(x: u32) -> u8 {
 // The payload of a seed.
 fn payload(seed: u32, out: &mut [u8]) {
     let mut x = seed;
-    let mut i = 0;
-    while i < out.len() {
+    for b in out.iter_mut() {
         x = turned(x);
-        out[i] = top(x);
-        i += 1;
+        *b = top(x);
     }
 }
 

@@ -10,14 +10,12 @@ const LF: u8 = 0x0a;
 // How many more LFs, up to 513 in all.
 fn counted(before: usize, s: &[u8]) -> usize {
     let mut n = before;
-    let mut i = 0;
-    while i < s.len() {
-        if s[i] == LF {
+    for b in s {
+        if *b == LF {
             if n < 513 {
                 n += 1;
             }
         }
-        i += 1;
     }
     n
 }
