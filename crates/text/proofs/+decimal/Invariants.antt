@@ -1,4 +1,4 @@
--- `text::decimal`: the number falls to its tenth. Assumes nothing.
+-- `text::decimal` ends: the number falls to its tenth.
 use Rattle.text.proofs.+decimal.Given as goal
 
 abbrev pub decreases-decimal : goal.decreases-decimal
