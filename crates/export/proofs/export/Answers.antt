@@ -1,0 +1,9 @@
+-- `export::export` meets its contract: what is printed is a part of the buffer. Assumes what `libc` and `os` say of the C functions behind it.
+use Rattle.exporting.proofs.Answers.{text_there, text_part}
+use Rattle.export.proofs.export.Goals as goal
+
+pub slice_bounds-text-end : goal.slice_bounds-text-end
+slice_bounds-text-end g c = search text_there
+
+pub slice_bounds-print-end-in-Text : goal.slice_bounds-print-end-in-Text
+slice_bounds-print-end-in-Text g c = search text_part

@@ -1,0 +1,13 @@
+-- `import::import` meets its contract: what is printed is a part of the buffer. Assumes what `libc` and `os` say of the C functions behind it.
+use Rattle.std.proofs.Common.{◌*◌, ◌≤◌, arith}
+use Rattle.importing.proofs.Answers.{good_fits, good_there, good_part}
+use Rattle.import.proofs.import.Goals as goal
+
+pub overflow_mul-n : goal.overflow_mul-n
+overflow_mul-n g c = let h : 21 * c.in-Good.k ≤ 10752 = search good_fits in omega arith
+
+pub slice_bounds-catalogue-end : goal.slice_bounds-catalogue-end
+slice_bounds-catalogue-end g c = search good_there
+
+pub slice_bounds-print-end-in-Good : goal.slice_bounds-print-end-in-Good
+slice_bounds-print-end-in-Good g c = search good_part
