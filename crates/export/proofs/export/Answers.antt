@@ -1,4 +1,4 @@
--- `export::export` meets its contract: what is printed is a part of the buffer. Assumes what `libc` and `os` say of the C functions behind it.
+-- `export::export` meets its contract: what is printed is a part of the buffer. Assumes nothing.
 use Rattle.exporting.proofs.Answers.{text_there, text_part}
 use Rattle.export.proofs.export.Goals as goal
 

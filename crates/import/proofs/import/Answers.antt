@@ -1,4 +1,4 @@
--- `import::import` meets its contract: what is printed is a part of the buffer. Assumes what `libc` and `os` say of the C functions behind it.
+-- `import::import` meets its contract: what is printed is a part of the buffer. Assumes nothing.
 use Rattle.std.proofs.Common.{◌*◌, ◌≤◌, arith}
 use Rattle.importing.proofs.Answers.{good_fits, good_there, good_part}
 use Rattle.import.proofs.import.Goals as goal
