@@ -9,7 +9,7 @@ As a module, each of these answers with a dictionary in the order of the files:
     signatures()         `crate::name`            -> its parameters, each a name and a type, and its result; of the public functions
     items()              `crate::name`            -> Place     every function, constant, struct and enum, private ones too; of a module `crate::module::name`
     definitions()        `crate/File.name`        -> Place     the top-level names of crates/*/specs/*.antt
-    theorems()           `crate/proofs/File.name` -> Place     those of crates/*/proofs/*.antt, but not of a function's own Proof.antt
+    theorems()           `crate/proofs/File.name` -> Place     those of crates/*/proofs/*.antt, but not of what proves one function, proofs/FUNCTION/*.antt
     parts()              either, `.part` behind   -> Place     a record's fields and a data type's cases, in specs and proofs
     edits()              `crate/label`            -> Place     crates/*/must-fail/*.edit
     cases()              `name`                   -> Place     the cases of second/coverage.rs, each of which a random script must meet
@@ -21,7 +21,9 @@ As a module, each of these answers with a dictionary in the order of the files:
     types()              `crate::Name`            -> Type      the structs and enums of the libraries' lib.rt
     types_named()        definition               -> the structs and enums, `crate::Name`, that its own text names
     groups()             crates.txt: the headings, each with its crates, each with those that it rests on
-    strays()             faults: whatever else is public and a function in a library, as a method, where no page could name it; a crate that rests on a program's part
+    exports()            the static libraries, `card_c` -> `card`: each does nothing but export the functions of that library to C
+    strays()             faults: whatever else is public and a function in a library, as a method, where no page could name it; a crate that rests on a program's part;
+                         a static library whose exports are not its library's functions by name, parameters, answer, clauses and what these words mean, each a call of its function
 
 A Place is a file, from the repository's root, a line, and whether the name is public there. A fault of the text that stops the reading
 (a contract that does not close, a definition named twice, a comment of another kind than `//` and `--`) is raised as Unreadable; the program then exits with 2.
@@ -58,6 +60,10 @@ def put(names, name, place):
 
 # ---- crates
 
+# behind a static library's name in crates.txt; how such a name ends
+STATIC, EXPORTS = " staticlib", "_c"
+
+
 @functools.cache
 def groups():
     found, path = [], ROOT / "crates.txt"
@@ -65,7 +71,7 @@ def groups():
         crate, colon, on = line.partition(":")
         if line.startswith("#"):
             found.append((line[1:].strip(), {}))
-        elif found and colon and crate not in crates_of(found):
+        elif found and colon and (crate := crate.removesuffix(STATIC)) not in crates_of(found):
             found[-1][1][crate] = on.split()
         elif line:
             raise Unreadable(f"{shown(path)}:{number}: no heading, and no further crate under one")
@@ -76,6 +82,20 @@ def crates_of(of_groups):
     return [crate for _, own in of_groups for crate in own]
 
 
+@functools.cache
+def exports():
+    lines = text_of(ROOT / "crates.txt").split("\n")
+    static = [line.partition(":")[0].removesuffix(STATIC) for line in lines if not line.startswith("#") and line.partition(":")[0].endswith(STATIC)]
+    for crate in static:
+        if not crate.endswith(EXPORTS) or crate.removesuffix(EXPORTS) not in crates_of(groups()):
+            raise Unreadable(f"crates.txt: {crate} is a static library, and not NAME{EXPORTS} of a library NAME")
+    return {crate: crate.removesuffix(EXPORTS) for crate in static}
+
+
+def is_ours(crate):
+    return (ROOT / "crates" / crate).is_dir()
+
+
 # ---- antt: definitions and theorems
 
 # modifiers; then a name and its type, or a record, data type or set of rules
@@ -84,6 +104,9 @@ TYPED = re.compile(MODIFIERS + r"(?P<names>[^\s(){}:=]\S*(?: [^\s(){}:=]\S*)*?) 
 NAMED = re.compile(MODIFIERS + r"(?P<form>record|data|ruleset) (?P<name>[^\s(){}:=]\S*)\s")
 MODULE = re.compile(r"module \S+.*")
 SKIPPED = ("use ", "pub use ", "pub mod ", "unfolding ", "--")
+
+# the files that prove one function
+OF_FUNCTION = ("Proof.antt", "Invariants.antt", "Answers.antt")
 
 Name = collections.namedtuple("Name", "name line public owner heads")
 
@@ -132,10 +155,10 @@ def antt_names(path):
 
 
 def antt_files(folder):
-    """A crate's antt files in a folder, as (crate, the file's name without its ending, path)."""
+    """A crate's antt files in a folder, as (crate, the file's name without its ending, path); not those that prove one function, which have a folder of its name."""
     for path in sorted(ROOT.glob(f"crates/*/{folder}/**/*.antt")):
         inside = path.relative_to(ROOT / "crates")
-        if path.name not in ("Lib.antt", "Proof.antt"):
+        if path.name != "Lib.antt" and not (path.name in OF_FUNCTION and path.parent.name != folder):
             yield inside.parts[0], "/".join(inside.with_suffix("").parts[2:]), path
 
 
@@ -172,11 +195,11 @@ def parts():
 FUNCTION = re.compile(r'^(?P<public>pub )?(?:extern "C" )?fn (?P<name>\w+)', re.M)
 ITEM = re.compile(r'^(?P<public>pub )?(?:(?:extern "C" )?fn|const|struct|enum) (?P<name>\w+)', re.M)
 IMPORT = re.compile(r"^ghost use (?P<path>[^\s;{]+?)(?:\.\{(?P<names>[^}]*)\}| as (?P<alias>\S+));", re.M)
-SPECS = re.compile(r"^Rattle·(?P<crate>\w+?)(?:·specs)?\.specs\.(?P<file>[^.]+)$")
+SPECS = re.compile(r"^Rattle\.(?P<crate>\w+)\.specs\.(?P<file>[^.]+)$")
 CLAUSE = re.compile(r"\b(?P<word>requires|ensures)\b[^{\n]*\{")
-BOUND = re.compile(r"λ ([^.⌜]*)\.\s")
+BOUND = re.compile(r"λ ([^.]*)\.\s")
 # a name with its type behind it
-MADE = re.compile(r"(?<![^\s(){}⌜⌝,;])[^\s(){}⌜⌝,;]+ :(?=\s)")
+MADE = re.compile(r"(?<![^\s(){},;])[^\s(){},;]+ :(?=\s)")
 # a text, a character, a comment of a line's rest, the begin of one of the other kind
 LITERAL_OR_COMMENT = re.compile(r'"(?:\\.|[^"\\\n])*"|\'(?:\\(?:x\w\w|.)|[^\'\\\n])\'|//[^\n]*|/\*')
 # `pub` and, with whatever words between, `fn`; a field has a colon between, any other item a brace, `=` or `;`
@@ -314,7 +337,7 @@ def imports(text):
     names = {}
     for found in IMPORT.finditer(text):
         specs = SPECS.match(found["path"])
-        if not specs:
+        if not specs or not is_ours(specs["crate"]):
             continue
         front = f"{specs['crate']}/{specs['file']}"
         names.update(brought(found, front))
@@ -345,24 +368,25 @@ def contract(text, at, path):
         clause = CLAUSE.search(text, place, brace + 1)
         head = head or text[at : clause.start() if clause else brace]
         if not clause:
-            return clauses, set(re.findall(r"(\w+)\s*:", head))
+            return clauses, set(re.findall(r"(\w+)\s*:(?!:)", head))
         place = closing(text, brace + 1, path)
         clauses.append((clause["word"], text[brace + 1 : place - 1]))
 
 
 def words_cited(text, known, bound):
-    """The names of `known` that a text cites, resolved. An operator `_+_` is cited by what stands between the blanks; a field, `.x` or `x =`, is not, nor
-    is what has its type behind it, `x :`, for it is made there."""
-    operators = {name.strip("_"): name for name in known if name.startswith("_") and name.endswith("_") and len(name) > 2}
-    words = re.sub(r"[(){}⌜⌝,;]", " ", MADE.sub("", text)).split()
+    """The names of `known` that a text cites, resolved. An operator `◌+◌` is cited by what stands between the circles; a field, `x.field` or `field =`, is not, but
+    x is; nor is what has its type behind it, `x :`, for it is made there."""
+    operators = {name.strip("◌"): name for name in known if name.startswith("◌") and name.endswith("◌") and len(name) > 2}
+    words = re.sub(r"[(){},;]", " ", MADE.sub("", text)).split()
     for word, following in zip(words, words[1:] + [""]):
-        front, dot, name = word.partition(".")
-        if dot and front + "." in known and name:
+        front, dot, behind = word.partition(".")
+        name = behind.partition(".")[0]
+        if name and front + "." in known and front not in bound:
             yield f"{known[front + '.']}.{name}"
         elif word in operators:
             yield f"{known[operators[word]]}.{operators[word]}"
-        elif word in known and following != "=" and word not in bound:
-            yield f"{known[word]}.{word}"
+        elif front in known and (following != "=" or dot) and front not in bound:
+            yield f"{known[front]}.{front}"
 
 
 def bound_in(clause):
@@ -402,7 +426,7 @@ def cited():
 # ---- what a definition or a theorem is made of
 
 USE = re.compile(
-    r"^(?:pub )?use Rattle·(?P<crate>\w+?)(?:·specs|·proofs)?\.(?P<folder>specs|proofs)\.(?P<file>[^.\s{]+)"
+    r"^(?:pub )?use Rattle\.(?P<crate>\w+)\.(?P<folder>specs|proofs)\.(?P<file>[^.\s{]+)"
     r"(?:\.\{(?P<names>[^}]*)\}| as (?P<alias>\S+))$",
     re.M,
 )
@@ -412,6 +436,8 @@ def used(text):
     """What the `use` lines of an antt file bring in: a name, or `alias.`, to `crate/File` or `crate/proofs/File`."""
     names = {}
     for found in USE.finditer(text):
+        if not is_ours(found["crate"]):
+            continue
         front = f"{found['crate']}/{found['file']}" if found["folder"] == "specs" else f"{found['crate']}/proofs/{found['file']}"
         names.update(brought(found, front))
     return names
@@ -475,7 +501,7 @@ def said_by(theorem):
 # ---- the code's own types, as definitions name them
 
 DECLARED = re.compile(
-    r"^(?:pub )?use Rattle·(?P<crate>\w+?)(?:·specs)?\.specs\.declared\.(?P<type>\w+)(?:\.the-variants)?(?:\.\{(?P<names>[^}]*)\}| as (?P<alias>\S+))$",
+    r"^(?:pub )?use Rattle\.(?P<crate>\w+)\.specs\.declared\.(?P<type>\w+)(?:\.TheVariants)?(?:\.\{(?P<names>[^}]*)\}| as (?P<alias>\S+))$",
     re.M,
 )
 TYPE = re.compile(r"^(?:pub )?(?:struct|enum) (?P<name>\w+)[^{\n]*\{", re.M)
@@ -512,8 +538,8 @@ def types_named():
     named = {}
     for crate, stem, path in antt_files("specs"):
         text = text_of(path)
-        for line in re.finditer(r"^(?:pub )?use Rattle·.*$", text, re.M):
-            if not USE.fullmatch(line[0]) and not DECLARED.fullmatch(line[0]):
+        for line in re.finditer(r"^(?:pub )?use Rattle\.(\w+).*$", text, re.M):
+            if is_ours(line[1]) and not USE.fullmatch(line[0]) and not DECLARED.fullmatch(line[0]):
                 raise Unreadable(f"{shown(path)}:{line_of(text, line.start())}: a use that is not understood")
         known = {}
         for found in DECLARED.finditer(text):
