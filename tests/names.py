@@ -52,6 +52,12 @@ def shown(path):
     return path.relative_to(ROOT).as_posix()
 
 
+def files(pattern):
+    """The files of a pattern, in order; not what rt has left in a crate's out/."""
+    found = ((path, path.relative_to(ROOT).parts) for path in ROOT.glob(pattern))
+    return sorted(path for path, parts in found if not (parts[0] == "crates" and parts[2:3] == ("out",)))
+
+
 def put(names, name, place):
     if name in names:
         raise Unreadable(f"{place.file}:{place.line}: {name} stands at {names[name].file}:{names[name].line} too")
@@ -156,7 +162,7 @@ def antt_names(path):
 
 def antt_files(folder):
     """A crate's antt files in a folder, as (crate, the file's name without its ending, path); not those that prove one function, which have a folder of its name."""
-    for path in sorted(ROOT.glob(f"crates/*/{folder}/**/*.antt")):
+    for path in files(f"crates/*/{folder}/**/*.antt"):
         inside = path.relative_to(ROOT / "crates")
         if path.name != "Lib.antt" and not (path.name in OF_FUNCTION and path.parent.name != folder):
             yield inside.parts[0], "/".join(inside.with_suffix("").parts[2:]), path
@@ -230,11 +236,11 @@ def program_of(crate):
     return next((program for program in programs if crate == program or crate.startswith(program + "_")), None)
 
 
-def rt_files(files="src/*.rt"):
-    """The sources of the libraries, as (crate, path)."""
-    for path in sorted(ROOT.glob(f"crates/*/{files}")):
+def rt_files(pattern="src/*.rt"):
+    """The sources of the libraries, as (crate, path); a static library has only exports of one of them."""
+    for path in files(f"crates/*/{pattern}"):
         crate = path.relative_to(ROOT / "crates").parts[0]
-        if not program_of(crate):
+        if not program_of(crate) and crate not in exports():
             yield crate, path
 
 
@@ -281,6 +287,7 @@ def public_functions():
 def strays():
     faults = [f"crates.txt: {crate} rests on {other}, a part of the program {program_of(other)}"
               for _, own in groups() for crate, on in own.items() for other in on if not own_part(crate, other)]
+    faults += export_faults()
     for crate, path in rt_files("**/*.rt"):
         text = code(path)
         for found in PUBLIC.finditer(text):
@@ -356,10 +363,13 @@ def closing(text, at, path):
 
 
 def contract(text, at, path):
-    """The clauses of the function whose head stands at `at`, each with its word, and the names of its arguments.
+    """The clauses of the function whose head stands at `at`, each with its word, and the names of its arguments."""
+    clauses, bound, _ = parted(text, at, path)
+    return clauses, bound
 
-    The first brace that opens no clause opens its body.
-    """
+
+def parted(text, at, path):
+    """The same, and the brace that opens its body: the first one that opens no clause."""
     clauses, place, head = [], at, None
     while True:
         brace = text.find("{", place)
@@ -368,7 +378,7 @@ def contract(text, at, path):
         clause = CLAUSE.search(text, place, brace + 1)
         head = head or text[at : clause.start() if clause else brace]
         if not clause:
-            return clauses, set(re.findall(r"(\w+)\s*:(?!:)", head))
+            return clauses, set(re.findall(r"(\w+)\s*:(?!:)", head)), brace
         place = closing(text, brace + 1, path)
         clauses.append((clause["word"], text[brace + 1 : place - 1]))
 
@@ -421,6 +431,56 @@ def asking():
 @functools.cache
 def cited():
     return {name: contracts()[name] for name in public_functions()}
+
+
+# ---- exports
+
+EXPORTED = "#[unsafe(no_mangle)]\n"
+
+# how a function looks from outside: its parameters and answer, the types that these name, its clauses, and where the words of the clauses have their meaning
+Promise = collections.namedtuple("Promise", "signature types clauses meanings")
+
+
+def promise(crate, path, found):
+    text = code(path)
+    clauses, _, brace = parted(text, found.start(), path)
+    words = {word.partition(".")[0] for _, clause in clauses for word in re.sub(r"[(){},;]", " ", clause).split()}
+    meanings = {}
+    for line in IMPORT.finditer(text):
+        for name, module in brought(line, line["path"]).items():
+            if name.strip("◌").removesuffix(".") in words:
+                meanings[name] = module
+    said = signature(text, found.end(), path)
+    typed = set(types_in(text[found.end() : brace].partition("requires")[0].partition("ensures")[0], crate, text))
+    return Promise((text[found.end() : text.index("(", found.end())], said), typed, [(word, " ".join(clause.split())) for word, clause in clauses], meanings)
+
+
+def export_faults():
+    """What is wrong with the static libraries, where they are not what `exports` says."""
+    for crate, library in exports().items():
+        path, source = (ROOT / "crates" / part / "src" / "lib.rt" for part in (crate, library))
+        for other in (file for ending in ("rt", "antt") for file in files(f"crates/{crate}/**/*.{ending}") if file != path):
+            yield f"{shown(other)}: {crate} has exports of {library} in src/lib.rt, and nothing else"
+        text = code(path)
+        wanted = {found["name"]: found for found in FUNCTION.finditer(code(source)) if found["public"]}
+        here = {found["name"]: found for found in FUNCTION.finditer(text)}
+        for name in sorted(set(wanted) - set(here)):
+            yield f"{shown(path)}: {library}::{name} is not exported"
+        for name, found in here.items():
+            place = f"{shown(path)}:{line_of(text, found.start())}: {name}"
+            if name not in wanted:
+                yield f"{place} is no public function of {library}"
+                continue
+            if not found["public"] or 'extern "C"' not in found[0] or not text.endswith(EXPORTED, 0, found.start()):
+                yield f"{place} is not exported"
+            of, own = promise(library, source, wanted[name]), promise(crate, path, found)
+            for what, one, other in zip(Promise._fields, of, own):
+                if one != other:
+                    yield f"{place} has other {what} than that of {library}"
+            brace = parted(text, found.start(), path)[2]
+            body = re.sub(r"\s", "", text[brace + 1 : closing(text, brace + 1, path) - 1]).replace(",)", ")")
+            if body != f"{library}::{name}({','.join(parameter for parameter, _ in own.signature[1].parameters)})":
+                yield f"{place} is no call of that of {library}"
 
 
 # ---- what a definition or a theorem is made of
@@ -505,7 +565,7 @@ DECLARED = re.compile(
     re.M,
 )
 TYPE = re.compile(r"^(?:pub )?(?:struct|enum) (?P<name>\w+)[^{\n]*\{", re.M)
-USED_TYPE = re.compile(r"^(?:pub )?use (?P<crate>\w+)::(?P<name>[A-Z]\w*);", re.M)
+USED_TYPE = re.compile(r"^(?:pub )?use (?P<crate>\w+)::(?:(?P<name>[A-Z]\w*)|\{(?P<names>[^{}]*)\});", re.M)
 
 Type = collections.namedtuple("Type", "place names")
 
@@ -513,7 +573,7 @@ Type = collections.namedtuple("Type", "place names")
 def types_in(text, crate, source):
     """The types, `crate::Name`, that a piece of a source names."""
     here = {found["name"]: crate for found in TYPE.finditer(source)}
-    here.update((found["name"], found["crate"]) for found in USED_TYPE.finditer(source))
+    here.update((name.strip(), found["crate"]) for found in USED_TYPE.finditer(source) for name in (found["name"] or found["names"]).split(","))
     for front, name in re.findall(r"(?:\b(\w+)::)?\b([A-Z]\w*)", text):
         if front or name in here:
             yield f"{front or here[name]}::{name}"

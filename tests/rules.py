@@ -214,7 +214,7 @@ def check_named(rules, faults):
             if said not in known:
                 faults.add(number, f"there is no rule {said}", CARD)
     anchors = {f"r{number.replace('.', '-')}" for number in known} | set(map(slug, headings_of(CARD)))
-    for path in sorted({path for pattern in PAGES for path in names.ROOT.glob(pattern) if path.is_file() and path != CARD}):
+    for path in sorted({path for pattern in PAGES for path in names.files(pattern) if path.is_file() and path != CARD}):
         text = names.text_of(path)
         for found in NAMED.finditer(text):
             for said in re.findall(NUMBER, found[0]):
