@@ -29,7 +29,9 @@ A Place is a file, from the repository's root, a line, and whether the name is p
 (a contract that does not close, a definition named twice, a comment of another kind than `//` and `--`) is raised as Unreadable; the program then exits with 2.
 """
 import collections
+import fnmatch
 import functools
+import os
 import pathlib
 import re
 import sys
@@ -53,9 +55,18 @@ def shown(path):
 
 
 def files(pattern):
-    """The files of a pattern, in order; not what rt has left in a crate's out/."""
-    found = ((path, path.relative_to(ROOT).parts) for path in ROOT.glob(pattern))
-    return sorted(path for path, parts in found if not (parts[0] == "crates" and parts[2:3] == ("out",)))
+    """The files of a pattern, in order. A crate's out/ is rt's, which may write there meanwhile: it is not gone into."""
+    front, deep, name = pattern.partition("/**/")
+    if not deep:
+        return sorted(ROOT.glob(pattern))
+    found = []
+    for top in ROOT.glob(front):
+        for at, folders, own in os.walk(top):
+            place = pathlib.Path(at)
+            if place.parent == ROOT / "crates" and "out" in folders:
+                folders.remove("out")
+            found += [place / file for file in own if fnmatch.fnmatchcase(file, name)]
+    return sorted(found)
 
 
 def put(names, name, place):
