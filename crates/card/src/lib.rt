@@ -34,7 +34,7 @@ pub extern "C" fn card_word_reading(bytes: &[u8]) -> u16
 
 // The refusal of settings: its number, 0 for none, and the place of the character that it names, 0 for none.
 #[repr(C)]
-#[derive(Drop)]
+#[derive(Clone, Copy)]
 pub struct CardRefusal {
     pub number: u8,
     pub place: usize,

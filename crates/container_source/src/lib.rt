@@ -12,14 +12,14 @@ use refusals::{Answer, Refusal};
 use shape::Shape;
 
 // A source between two containers: the next place in the 16-byte message, and the parity of the container before.
-#[derive(Drop)]
+#[derive(Clone, Copy)]
 pub struct State {
     pub place: u8,
     pub parity: u8,
 }
 
 // The five overhead bytes that are passed on unexamined.
-#[derive(Drop)]
+#[derive(Clone, Copy)]
 pub struct Unexamined {
     pub f2: u8,
     pub h4: u8,
@@ -29,7 +29,7 @@ pub struct Unexamined {
 }
 
 // What a container carries beside trace and payload: the label, the five bytes, and what is returned to the far end. Eight bytes, so that it goes in one register.
-#[derive(Drop)]
+#[derive(Clone, Copy)]
 pub struct Given {
     pub label: u8,
     pub unexamined: Unexamined,
@@ -38,7 +38,7 @@ pub struct Given {
 }
 
 // The answer, and the state from then on: the old one where the call was refused.
-#[derive(Drop)]
+#[derive(Clone, Copy)]
 pub struct Sent {
     pub answer: Answer,
     pub state: State,

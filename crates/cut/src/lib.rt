@@ -10,7 +10,7 @@ ghost use Rattle.cut.specs.Inner.{Line, Sizes, Cuts};
 use shape::Shape;
 
 // One unit, cut. Places are counted from H1.
-#[derive(Drop)]
+#[derive(Clone, Copy)]
 pub struct Cut {
     // the held bytes that the unit goes on with
     pub kept: usize,

@@ -9,7 +9,7 @@ use record_line::Form;
 use records::Refusal;
 
 // The answer: a text of so many bytes, or the refusal.
-#[derive(Drop)]
+#[derive(Clone, Copy)]
 pub enum Exported {
     Text(usize),
     Not(Refusal),

@@ -13,14 +13,14 @@ use sheet_line::LineAnswer;
 use sheet_refusals::Refusal;
 
 // The first refusal that is due, if any is.
-#[derive(Drop)]
+#[derive(Clone, Copy)]
 pub enum First {
     Of(Refusal),
     Nothing,
 }
 
 // The answer: a good catalogue of so many records, or the refusal.
-#[derive(Drop)]
+#[derive(Clone, Copy)]
 pub enum Imported {
     Good(usize),
     Refused(Refusal),

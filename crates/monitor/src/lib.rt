@@ -9,7 +9,7 @@ ghost use Rattle.monitor.specs.Monitoring.{no_parity, forgot, blank_of, monitor_
 use settings::Settings;
 
 // What is seen of a container: four of its overhead bytes, and the exclusive or of all its bytes.
-#[derive(Drop)]
+#[derive(Clone, Copy)]
 pub struct Overhead {
     pub j1: u8,
     pub b3: u8,
@@ -20,7 +20,7 @@ pub struct Overhead {
 
 // What is watched from container to container: the label with dPLM, dUNEQ, dRDI, and the trace with dTIM.
 #[repr(C)]
-#[derive(Drop)]
+#[derive(Clone, Copy)]
 pub struct Watch {
     pub label: overhead::Accepted,
     pub plm: bool,
@@ -31,14 +31,14 @@ pub struct Watch {
 
 // All that is kept from container to container: the last parity, which a restart forgets, and what is watched.
 #[repr(C)]
-#[derive(Drop)]
+#[derive(Clone, Copy)]
 pub struct Monitor {
     pub parity: overhead::Parity,
     pub watch: Watch,
 }
 
 // What a container gives: the monitor after it, its violated columns, and the violations that the far end returned.
-#[derive(Drop)]
+#[derive(Clone, Copy)]
 pub struct Seen {
     pub monitor: Monitor,
     pub violated: u8,

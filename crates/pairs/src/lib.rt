@@ -11,7 +11,7 @@ ghost use Rattle.pairs.specs.Inner.{visited_of};
 use records::{First, Kind, Refusal};
 
 // The first two records with one trace, as a refusal, or nothing; and how many pairs were compared.
-#[derive(Drop)]
+#[derive(Clone, Copy)]
 pub struct Visited {
     pub repeat: First,
     pub pairs: usize,

@@ -12,7 +12,7 @@ use pointer_state::State;
 
 // How many of the last words, in a row, were taken as alarm words (as far as 3), as new data and as invalid (as far as 8).
 #[repr(C)]
-#[derive(Drop)]
+#[derive(Clone, Copy)]
 pub struct Rows {
     pub alarms: u8,
     pub news: u8,
@@ -20,7 +20,7 @@ pub struct Rows {
 }
 
 // A pointer between two words. The wait is the units since the last adjustment or new data that ended normal, as far as 3.
-#[derive(Drop)]
+#[derive(Clone, Copy)]
 pub struct Pointer {
     pub state: State,
     pub rows: Rows,
@@ -29,7 +29,7 @@ pub struct Pointer {
 }
 
 // How a word was taken, and the pointer after it.
-#[derive(Drop)]
+#[derive(Clone, Copy)]
 pub struct AfterWord {
     pub taken: Taken,
     pub pointer: Pointer,

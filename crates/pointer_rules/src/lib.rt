@@ -10,7 +10,7 @@ use pointer_state::State;
 use shape::Adjustment;
 
 // How a word is taken, with the offset that it names or leads to. A resync is rule 3; a plain word changes nothing, in normal by rule 4 and in alarm or lost by rule 5.
-#[derive(Drop)]
+#[derive(Clone, Copy)]
 pub enum Taken {
     AlarmWord,
     NewData(u16),
@@ -22,7 +22,7 @@ pub enum Taken {
 
 // How many of the last words were alike, as far as 3, and their value; both 0 where there is no run.
 #[repr(C)]
-#[derive(Drop)]
+#[derive(Clone, Copy)]
 pub struct Run {
     pub count: u8,
     pub value: u16,

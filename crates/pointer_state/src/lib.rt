@@ -6,7 +6,7 @@ ghost use Rattle.std.specs.Prelude.{◌≡◌};
 ghost use Rattle.pointer_state.specs.State.{is_normal, is_alarm, offset_of, placed};
 
 // Normal with its offset, alarm or lost.
-#[derive(Drop)]
+#[derive(Clone, Copy)]
 pub enum State {
     Normal(u16),
     Alarm,

@@ -16,7 +16,7 @@ use unit_end::{Actions, Causes, Defects};
 
 // A sink's state: the kind is 0 for lost, 1 for alarm, 2 for normal; the offset counts where it is normal.
 #[repr(C)]
-#[derive(Drop)]
+#[derive(Clone, Copy)]
 pub struct Plain {
     pub kind: u8,
     pub offset: u16,
@@ -30,7 +30,7 @@ pub struct Plain {
 
 // What a call answers: the refusal's number, 0 for none, the character's place that it names, 0 for none, and the rest as the sink has it.
 #[repr(C)]
-#[derive(Drop)]
+#[derive(Clone, Copy)]
 pub struct Shown {
     pub number: u8,
     pub place: usize,

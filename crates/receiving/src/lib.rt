@@ -17,7 +17,7 @@ use shape::{Adjustment, Shape};
 
 // What is told of a container: the columns of parity that are violated, whose number is its REI (`overhead::violations`), and the violations that the far end returned.
 #[repr(C)]
-#[derive(Drop)]
+#[derive(Clone, Copy)]
 pub struct Told {
     pub violated: u8,
     pub returned: u8,
@@ -26,7 +26,7 @@ pub struct Told {
 // What ended in a unit: how many containers; whether one was completed in the done buffer; whether one is a part of the unit itself, and from which place.
 // `first` is told of the one completed, `second` of the one inside; it is 0 where there is none.
 #[repr(C)]
-#[derive(Drop)]
+#[derive(Clone, Copy)]
 pub struct Ended {
     pub number: u8,
     pub completed: bool,
@@ -37,7 +37,7 @@ pub struct Ended {
 }
 
 // What a unit leaves: the monitor, how many bytes are held, and what ended.
-#[derive(Drop)]
+#[derive(Clone, Copy)]
 pub struct AfterUnit {
     pub monitor: Monitor,
     pub held: usize,
@@ -45,14 +45,14 @@ pub struct AfterUnit {
 }
 
 // What was seen of two containers, one after the other.
-#[derive(Drop)]
+#[derive(Clone, Copy)]
 struct Both {
     earlier: Seen,
     later: Seen,
 }
 
 // Where a unit goes on: the held bytes that it goes on with, and the place in it where its run of container bytes begins.
-#[derive(Drop)]
+#[derive(Clone, Copy)]
 struct Begin {
     kept: usize,
     from: usize,

@@ -12,7 +12,7 @@ ghost use Rattle.record_line.specs.Inner.{characters_most, line_most};
 use records::Kind;
 
 // What a line has between its fields, before and behind the trace, and whether each quote in the trace is doubled.
-#[derive(Drop)]
+#[derive(Clone, Copy)]
 pub struct Form {
     pub between: u8,
     pub opening: u8,

@@ -6,7 +6,7 @@ ghost use Rattle.std.specs.Prelude.{◌≡◌, cond, ◌≤◌};
 ghost use Rattle.shape.specs.Shape.{au4, Fit, place_of, held_count, up_of, down_of, offset_after, run_from, ended_by};
 
 // A unit is a header of three groups of `step` bytes, then `size` bytes; its pointer's values run from 0 to `top`. A container is nine rows of `columns` bytes.
-#[derive(Drop)]
+#[derive(Clone, Copy)]
 pub struct Shape {
     pub step: usize,
     pub size: usize,
@@ -15,7 +15,7 @@ pub struct Shape {
 }
 
 // What a unit does to the offset: what a source is asked for, and what a sink reads in the word.
-#[derive(Drop)]
+#[derive(Clone, Copy)]
 pub enum Adjustment {
     Nothing,
     Increment,

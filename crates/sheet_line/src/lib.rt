@@ -9,7 +9,7 @@ ghost use Rattle.sheet_line.specs.Line.{number_field, label_field, trace_on, quo
 ghost use Rattle.sheet_line.specs.Inner.{Sound};
 
 // What may be wrong with a line, in the order in which it is looked for.
-#[derive(Drop)]
+#[derive(Clone, Copy)]
 pub enum LineFault {
     // written in another way than ask 1 has it, or longer than 80 bytes, or ended by no LF
     Malformed,
@@ -20,7 +20,7 @@ pub enum LineFault {
 }
 
 // What is wrong first, or that nothing is.
-#[derive(Drop)]
+#[derive(Clone, Copy)]
 pub enum LineAnswer {
     Wrong(LineFault),
     Passes,

@@ -10,7 +10,7 @@ use records::PlaceList;
 use sheet_line::LineFault;
 
 // Too many lines, a line with its place from 1, or the catalogue that the lines say.
-#[derive(Drop)]
+#[derive(Clone, Copy)]
 pub enum Refusal {
     TooMany,
     Line(LineFault, usize),

@@ -17,7 +17,7 @@ use shape::Shape;
 use unit_end::{Actions, Causes, Defects};
 
 // A sink between two units: the pointer, how many bytes are held, what is watched of containers, and the units that ended unsettled since the fresh state.
-#[derive(Drop)]
+#[derive(Clone, Copy)]
 pub struct State {
     pub pointer: Pointer,
     pub held: usize,
@@ -27,7 +27,7 @@ pub struct State {
 
 // The answer, and the state from then on; of the unit, what ended, the actions, the defects, the causes, and whether it ended settled. Where the call was
 // refused the state is the old one, and nothing is told of a unit.
-#[derive(Drop)]
+#[derive(Clone, Copy)]
 pub struct Received {
     pub answer: Answer,
     pub state: State,

@@ -8,7 +8,7 @@ ghost use Rattle.trace_monitor.specs.Trace.{gathered_of, ends_good, spoils, with
 
 // The message that is being gathered: the place of its next byte, 0 outside any, its start byte, and its characters as far as they have come.
 #[repr(C)]
-#[derive(Drop)]
+#[derive(Clone, Copy)]
 pub struct Gathered {
     pub place: u8,
     pub start: u8,
@@ -17,7 +17,7 @@ pub struct Gathered {
 
 // The message being gathered, the last good one with its run, the accepted one if there is one, the count of containers without a good message, and dTIM.
 #[repr(C)]
-#[derive(Drop)]
+#[derive(Clone, Copy)]
 pub struct Trace {
     pub gathered: Gathered,
     pub last: [u8; 15],

@@ -11,7 +11,7 @@ use settings::{Flags, Settings};
 
 // dUNEQ, dTIM, dPLM, dRDI.
 #[repr(C)]
-#[derive(Drop)]
+#[derive(Clone, Copy)]
 pub struct Defects {
     pub uneq: bool,
     pub tim: bool,
@@ -21,7 +21,7 @@ pub struct Defects {
 
 // Consequent actions, and the SSF that they follow from. REI is how many violations each container has.
 #[repr(C)]
-#[derive(Drop)]
+#[derive(Clone, Copy)]
 pub struct Actions {
     pub ssf: bool,
     pub tsf: bool,
@@ -31,7 +31,7 @@ pub struct Actions {
 
 // cAIS, cLOP, cSSF, cUNEQ, cTIM, cRDI, cPLM.
 #[repr(C)]
-#[derive(Drop)]
+#[derive(Clone, Copy)]
 pub struct Causes {
     pub ais: bool,
     pub lop: bool,

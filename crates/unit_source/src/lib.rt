@@ -12,14 +12,14 @@ use refusals::{Answer, Refusal};
 use shape::{Adjustment, Shape};
 
 // A source between two units: its offset, and the units since the last adjustment, as far as 3.
-#[derive(Drop)]
+#[derive(Clone, Copy)]
 pub struct State {
     pub offset: u16,
     pub wait: u8,
 }
 
 // The answer; how many of the two containers ended, 0 where the call was refused; and the state from then on, the old one where it was.
-#[derive(Drop)]
+#[derive(Clone, Copy)]
 pub struct Made {
     pub answer: Answer,
     pub ended: u8,

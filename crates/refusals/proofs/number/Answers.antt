@@ -5,7 +5,7 @@ use Rattle.refusals.proofs.number.Goals as goal
 
 pub returns-in-Done : goal.returns-in-Done
 unfolding answer_number
-returns-in-Done c = simp c.enum_told-1.given.1
+returns-in-Done c = simp c.in-Done.is
 
 pub returns-in-Refused : goal.returns-in-Refused
 returns-in-Refused c = search number_refused

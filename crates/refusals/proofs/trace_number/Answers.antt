@@ -4,12 +4,12 @@ use Rattle.refusals.proofs.trace_number.Goals as goal
 
 pub returns-in-Below : goal.returns-in-Below
 unfolding trace_number
-returns-in-Below c = simp c.enum_told-1.given.1
+returns-in-Below c = simp c.in-Below.is
 
 pub returns-in-Above : goal.returns-in-Above
 unfolding trace_number
-returns-in-Above c = simp c.enum_told-in-Above-1.given.1
+returns-in-Above c = simp c.in-Above.is
 
 pub returns-in-Spaces : goal.returns-in-Spaces
 unfolding trace_number
-returns-in-Spaces c = simp c.enum_told-in-Spaces-1.given.1
+returns-in-Spaces c = simp c.in-Spaces.is
