@@ -1,0 +1,18 @@
+-- `catalogue::check_as` meets its contract: the length, then the records, then the pairs. Assumes nothing.
+use Rattle.catalogue.proofs.Answers.{length_whole, length_most, check_length, check_fault, check_pairs}
+use Rattle.catalogue.proofs.check_as.Goals as goal
+
+pub returns-then-length_refused : goal.returns-then-length_refused
+returns-then-length_refused c = search check_length
+
+pub first_fault-requires : goal.first_fault-requires
+first_fault-requires c = search length_whole
+
+pub first_repeat-requires : goal.first_repeat-requires
+first_repeat-requires c = search (length_whole, length_most)
+
+pub returns-in-Of : goal.returns-in-Of
+returns-in-Of c = search check_fault
+
+pub returns-in-Nothing : goal.returns-in-Nothing
+returns-in-Nothing c = search check_pairs

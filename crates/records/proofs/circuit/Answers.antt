@@ -1,0 +1,13 @@
+-- `records::circuit` meets its contract: two bytes, high first, and no overflow. Assumes nothing.
+use Rattle.records.proofs.Places.{circuit_read}
+use native.Mathlib.Omega.{arith}
+use Rattle.records.proofs.circuit.Goals as goal
+
+pub overflow_mul-result : goal.overflow_mul-result
+overflow_mul-result c = omega arith
+
+pub overflow_add-result : goal.overflow_add-result
+overflow_add-result c = omega arith
+
+pub returns : goal.returns
+returns c = search circuit_read
