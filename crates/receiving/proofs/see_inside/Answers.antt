@@ -9,7 +9,7 @@ pub slice_bounds-see-end : goal.slice_bounds-see-end
 slice_bounds-see-end c = search end_within
 
 pub see-requires : goal.see-requires
-see-requires c =     let a = c in
+see-requires c = let a = c in
     part_long a.args.shape a.args.c a.args.unit.now a.requires c.if-c.true
 
 pub returns-then-c : goal.returns-then-c
