@@ -8,7 +8,7 @@ ghost use Rattle.view.specs.View.{part_of, in_order, container_handed, Views};
 use receiving::Ended;
 
 // The container that was completed in the done buffer, and then the one that is a part of the unit itself; empty where there is none.
-#[derive(Drop)]
+#[derive(Clone, Copy)]
 pub struct View<'a> {
     pub first: &'a [u8],
     pub second: &'a [u8],

@@ -1,0 +1,12 @@
+-- `sink::take_unit` meets its contract: by whether the unit ends normal. Assumes nothing.
+use Rattle.sink.proofs.Feeds.{receivable, leaves_normal, leaves_silence}
+use Rattle.sink.proofs.take_unit.Goals as goal
+
+pub receive-requires : goal.receive-requires
+receive-requires c = search receivable
+
+pub returns-then-normal : goal.returns-then-normal
+returns-then-normal c = search leaves_normal
+
+pub returns : goal.returns
+returns c = search leaves_silence
