@@ -1,6 +1,6 @@
 /* What the path card's library gives its host: parity, trace check and word
  * reading on bytes, and a check of settings before any call is made with them.
- * Link with libcard.a (`rt staticlib card` writes it to target/staticlib/).
+ * Link with libcard.a (`tools/build card` writes it to target/staticlib/).
  *
  *     uint8_t  card_parity(const uint8_t *bytes, size_t length);
  *     bool     card_trace_check(const uint8_t *bytes, size_t length);

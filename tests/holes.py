@@ -44,55 +44,61 @@ def rowed(old, new, *words):
     return Trial("docs/RULES.md", old, new, [RULES], words)
 
 
+def exported(crate, old, new, *words):
+    return Trial(f"crates/{crate}/src/lib.rt", old, new, [RULES, PROMISES], [f"crates/{crate}/src/lib.rt:", *words])
+
+
 def named(file, new, *words):
     """A rule named on another page; no fault where there are no words."""
     return Trial(file, None, new, [RULES] if words else [], [f"{file}:", *words])
 
 
-PEEK = "use Prim.Native.Nat.{ℕ}\npub peek : ℕ\npeek = 0\n"
-HELD, DONE = "now (e .1 .1 .1 .0)", "now (e .1 .1 .1 .1 .0)"
+PEEK = "use Rattle.std.specs.Prelude.{ℕ}\npub peek : ℕ\npeek = 0\n"
+HELD, DONE = "e.1.1.1.0.now", "e.1.1.1.1.0.now"
 
 TRIALS = [
     # reads nothing; a part of the answer; the answer left out
     theorem("Determined", "1 parity.ps parity.r parity-promise.Post (λ κs r e. r)", "1 parity.ps parity.r parity-promise.Post (λ κs r e. 0)",
-            "parity::parity", "parity-determined", "`0`"),
-    theorem("Received", "sink-fresh.r sink-fresh-promise.Post (λ κs r e. r)", "sink-fresh.r sink-fresh-promise.Post (λ κs r e. r .total)",
-            "sink::fresh", "sink-fresh-determined", "`r .total`"),
-    theorem("Determined", "text-hex-promise.Post (λ κs r e. record { answer = r; buffer = now (e .0) })", "text-hex-promise.Post (λ κs r e. now (e .0))",
-            "text::hex", "the answer, `r`,", "text-hex-determined"),
-    theorem("Determined", "records-trace-promise.Post (λ κs r e. now r)", "records-trace-promise.Post (λ κs r e. a)",
-            "records::trace", "records-trace-determined", "`a`"),
+            "parity::parity", "parity_determined", "`0`"),
+    theorem("Received", "sink-fresh.r sink-fresh-promise.Post (λ κs r e. r)", "sink-fresh.r sink-fresh-promise.Post (λ κs r e. r.total)",
+            "sink::fresh", "sink_fresh_determined", "`r.total`"),
+    theorem("Determined", "text-hex-promise.Post (λ κs r e. record { answer = r; buffer = e.0.now })", "text-hex-promise.Post (λ κs r e. e.0.now)",
+            "text::hex", "the answer, `r`,", "text_hex_determined"),
+    theorem("Determined", "records-trace-promise.Post (λ κs r e. r.now)", "records-trace-promise.Post (λ κs r e. a)",
+            "records::trace", "records_trace_determined", "`a`"),
     # a buffer left out; read at another's place; twice, and the other not; two of them run together
     theorem("Received", f"record {{ received = r; held = {HELD}; done = {DONE} }}", f"record {{ received = r; held = {HELD} }}",
-            "sink::sink", f"what `done` has at exit, `{DONE}`,", "sink-determined"),
-    theorem("Determined", "copier-copy-at-promise.Post (λ κs r e. now (e .1 .0))", "copier-copy-at-promise.Post (λ κs r e. now (e .0))",
-            "copier::copy_at", "what `dst` has at exit, `now (e .1 .0)`,", "copier-copy-at-determined"),
+            "sink::sink", f"what `done` has at exit, `{DONE}`,", "sink_determined"),
+    theorem("Determined", "copier-copy-at-promise.Post (λ κs r e. e.1.0.now)", "copier-copy-at-promise.Post (λ κs r e. e.0.now)",
+            "copier::copy_at", "what `dst` has at exit, `e.1.0.now`,", "copier_copy_at_determined"),
     theorem("Received", f"record {{ shown = r; held = {HELD}; done = {DONE} }}", f"record {{ shown = r; held = {HELD}; done = {HELD} }}",
-            "probe_sink::probe_sink", f"what `done` has at exit, `{DONE}`,", "probe-sink-determined"),
-    theorem("Received", "held = now (e .1 .1 .1 .1 .0); done = now (e .1 .1 .1 .1 .1 .0)", "held = now (e .1 .1 .1 .1 .0) ++ now (e .1 .1 .1 .1 .1 .0)",
-            "cut::cut_unit", "cut-unit-determined", "++"),
+            "probe_sink::probe_sink", f"what `done` has at exit, `{DONE}`,", "probe_sink_determined"),
+    theorem("Received", "held = e.1.1.1.1.0.now; done = e.1.1.1.1.1.0.now", "held = e.1.1.1.1.0.now ++ e.1.1.1.1.1.0.now",
+            "cut::cut_unit", "cut_unit_determined", "++"),
     # one of two theorems that share an outcome
-    theorem("Determined", "probe-copy-promise.Post (λ κs r e. now (e .1 .0))", "probe-copy-promise.Post (λ κs r e. r)",
-            "probe::probe_copy", "what `dst` has at exit, `now (e .1 .0)`,", "probe-copy-buffer-determined"),
+    theorem("Determined", "probe-copy-promise.Post (λ κs r e. e.1.0.now)", "probe-copy-promise.Post (λ κs r e. r)",
+            "probe::probe_copy", "what `dst` has at exit, `e.1.0.now`,", "probe_copy_buffer_determined"),
     # another function's contract; another's parameters
     theorem("Determined", "1 copier-fill.ps copier-fill.r copier-fill-promise.Post", "1 copier-fill.ps copier-fill.r copier-copy-promise.Post",
-            "copier::fill", "copier-fill-determined does not read its contract", "copier::copy"),
-    theorem("Sources", "unit-header.ps unit-header.r", "unit-pour.ps unit-header.r", "unit::header", "unit-header-determined does not read its .ps"),
-    theorem("Sources", "use Rattle·unit.proofs.pour.Reads as", "use Rattle·unit.proofs.header.Reads as",
-            "unit::pour", "unit-pour-determined does not read its contract"),
+            "copier::fill", "copier_fill_determined does not read its contract", "copier::copy"),
+    theorem("Sources", "unit-header.ps unit-header.r", "unit-pour.ps unit-header.r", "unit::header", "unit_header_determined does not read its .ps"),
+    theorem("Sources", "use Rattle.unit.proofs.pour.Reads as", "use Rattle.unit.proofs.header.Reads as",
+            "unit::pour", "unit_pour_determined does not read its contract"),
     # a hypothesis before it; a conclusion behind it
-    theorem("Determined", "pub word-h1-determined : ", "pub word-h1-determined : 0 ≡ 1 → ", "word::h1", "word-h1-determined is not of the form"),
+    theorem("Determined", "pub word_h1_determined : ", "pub word_h1_determined : 0 ≡ 1 → ", "word::h1", "word_h1_determined is not of the form"),
     theorem("Determined", "word-h2.r word-h2-promise.Post (λ κs r e. r)", "word-h2.r word-h2-promise.Post (λ κs r e. r)\n-- so\n  → ℕ",
-            "word::h2", "word-h2-determined is not of the form"),
+            "word::h2", "word_h2_determined is not of the form"),
     # what they all rest on: its definition, and its words
     theorem("Determined", "f κs x s ≡ f κs y t", "f κs x s ≡ f κs x s", "Determines does not say"),
-    theorem("Sources", "use denote.Ref.{now}", "use denote.Ref.{before as now}", "Sources.antt: now is not that of denote.Ref"),
+    theorem("Sources", "use Rattle.unit.proofs.header.Kinds as", "use Rattle.copier.specs.Put.{put as now}\nuse Rattle.unit.proofs.header.Kinds as",
+            "Sources.antt: now is not that of what is lent"),
+    theorem("Received", "use Rattle.view.specs.View.{Views}", "use Rattle.view.specs.Inner.{Seen as Views}", "Received.antt: Views is not that of Rattle.view.specs.View"),
     # the exception; a theorem that no row names
-    theorem("Received", "→ (first ≡ first′) × (second ≡ second′)", "→ first ≡ first′", "view::of", "view-of-determined", "is not the exception"),
-    theorem("Sources", "-- ---- refusals", "pub spare-determined : ℕ\nspare-determined = 0", "spare-determined stands in no row"),
+    theorem("Received", "→ (first ≡ first') × (second ≡ second')", "→ first ≡ first'", "view::of", "view_of_determined", "is not the exception"),
+    theorem("Sources", "-- ---- refusals", "pub spare_determined : ℕ\nspare_determined = 0", "spare_determined stands in no row"),
     # a buffer that the code has and the theorem does not; something lent inside a parameter
     Trial("crates/overhead/src/lib.rt", "pub fn remote(g1: u8) -> bool", "pub fn remote(\n    g1: u8, // &mut\n    out: &'a mut [u8; 4],\n) -> bool", [PROMISES],
-          ["overhead::remote", "what `out` has at exit, `now (e .1 .0)`,", "overhead-remote-determined"]),
+          ["overhead::remote", "what `out` has at exit, `e.1.0.now`,", "overhead_remote_determined"]),
     Trial("crates/word/src/lib.rt", "pub fn ss(w: u16) -> u16", "pub fn ss(w: Held<'a>) -> u16", [PROMISES], ["word::ss", "Held<'a>"]),
     # public functions: one in a place of its own, with no row; methods; those of modules; words between
     public("parity/src/lib.rt", "\npub fn peek(s: &[u8]) -> u8 {\n    0\n}\n", "parity::peek", "stands in no"),
@@ -127,7 +133,7 @@ TRIALS = [
     ruled("[GLOSSARY.md](GLOSSARY.md)", "[GLOSSARY.md](GLOSSARY.md#peek)", "GLOSSARY.md#peek: no such heading or anchor"),
     ruled("| 0 | 6AAA | increment | 1 |", "| 0 | 6AAB | increment | 1 |", "the row should say P2, 0, 6AAA, increment, 1"),
     ruled("| <a id=\"r15-12\">15.12</a> | P12 | 5 | 1801 | new data | 1 |", "- <a id=\"r15-12\">15.12</a> P12", "11 rows of the pointer table, and 12 that are proved"),
-    Trial("crates/records/specs/Refusals.antt", "catalogueNumber NotListed = 14", "catalogueNumber NotListed = 22", [RULES],
+    Trial("crates/records/specs/Refusals.antt", "catalogue_number NotListed = 14", "catalogue_number NotListed = 22", [RULES],
           ["docs/CARD.md:", "refusal 22 of the definitions has no rule 12.22"]),
     ruled("| a circuit that is not in the catalogue | |", "| a circuit that is not in the catalogue | |\n| <a id=\"r12-19\">12.19</a> | a peek | |",
           "rule 12.19 is about a refusal that no definition gives"),
@@ -142,9 +148,9 @@ TRIALS = [
     rowed(None, "| [19.1](CARD.md#r19-1) a | none | nothing | none |\n", "docs/RULES.md:", "rule 19.1 in 'Inside the card'"),
     rowed("## [13. How a call is refused]", "## [13. How calls are refused]", "and should be 1. The card's share of the path"),
     # a rule that no row gives a definition, and no word on it; a definition, of a promise and of demand 3, that no rule has
-    rowed("flags above 15 | `records/Record.flagsRefused` |", "flags above 15 | none |", "docs/CARD.md:", "rule 12.12 has no definition in docs/RULES.md"),
+    rowed("flags above 15 | `records/Record.flags_refused` |", "flags above 15 | none |", "docs/CARD.md:", "rule 12.12 has no definition in docs/RULES.md"),
     rowed(", `settings/Settings.judged`", "", "settings/Settings.judged (crates/settings/specs/Settings.antt:", "stands in the row of no rule"),
-    rowed(", `settles/Demand.logOf`", "", "settles/Demand.logOf (", "to which settles/proofs/Settled.demand-3 comes, stands in the row of no rule"),
+    rowed(", `settles/Demand.log_of`", "", "settles/Demand.log_of (", "to which settles/proofs/Settled.demand_3 comes, stands in the row of no rule"),
     # rules named elsewhere
     named("lessons/README.md", "\nSee rule 4.99.\n", "there is no rule 4.99"),
     named("lessons/01-one-plain-path.bench", "# rules 4.1 to 4.98\n", "there is no rule 4.98"),
@@ -157,16 +163,26 @@ TRIALS = [
     Trial("docs/RULES.md", None, "| a | none | `card::card_parity` | none |\n", [RULES], ["docs/RULES-INDEX.md:", "names are missing", "`card::card_parity`"]),
     Trial("docs/RULES-INDEX.md", None, "\n[`case peek`](../README.md)\n", [RULES], ["docs/RULES-INDEX.md:", "`case peek` stands in no table"]),
     # an entry point that asks something of its caller
-    Trial("crates/card/src/lib.rt", "fn card_settings_check(label: u8, trace: &[u8]) -> CardRefusal\n", "fn card_settings_check(label: u8, trace: &[u8]) -> CardRefusal\n    requires { ⌜ label ≡ 1 ⌝ }\n",
+    Trial("crates/card/src/lib.rt", "fn card_settings_check(label: u8, trace: &[u8]) -> CardRefusal\n", "fn card_settings_check(label: u8, trace: &[u8]) -> CardRefusal\n    requires { label ≡ 1 }\n",
           [RULES, PROMISES], ["card::card_settings_check", "has a requires"]),
     # a library that rests on a program's part
     Trial("crates.txt", "\nprobe: copier", "\nprobe: programs copier", [RULES, PROMISES], ["crates.txt: probe rests on programs, a part of the program programs"]),
     Trial("crates.txt", "\ncard: parity", "\ncard: bench_say parity", [RULES, PROMISES], ["crates.txt: card rests on bench_say, a part of the program bench"]),
+    # exports: a weaker promise; another meaning of a word in it; one that calls another function; one that is not exported; one of no function; something beside them
+    exported("card_c", "ensures { result ≡ parity_of bytes.now }", "ensures { result < 256 }", "card_parity has other clauses than that of card"),
+    exported("card_c", "ghost use Rattle.word.specs.Word.{reading_of};", "ghost use Rattle.parity.specs.Parity.{parity_of as reading_of};",
+             "card_word_reading has other meanings than that of card"),
+    exported("card_c", "card::card_trace_check(bytes)", "card::card_parity(bytes) == 0", "card_trace_check is no call of that of card"),
+    exported("probe_sources_c", "#[unsafe(no_mangle)]\npub extern \"C\" fn probe_fresh_unit", "pub fn probe_fresh_unit", "probe_fresh_unit is not exported"),
+    exported("probe_c", "fn probe_plain_word(value: u16)", "fn probe_plain_word(value: u32)", "probe_plain_word has other signature than that of probe"),
+    exported("probe_sink_c", "fn probe_fresh_sink()", "fn probe_sink_fresh()", "probe_sink_fresh is no public function of probe_sink"),
+    exported("probe_sink_c", "use settings::Settings;", "use card::CardRefusal as Settings;", "probe_sink has other types than that of probe_sink"),
+    Trial("crates/probe_c/specs/Probe.antt", None, "pub peek : ℕ\npeek = 0\n", [RULES, PROMISES], ["crates/probe_c/specs/Probe.antt: probe_c has exports of probe", "nothing else"]),
     # what must be believed: another table; a statement that comes to an Inner file, and such a file to which none comes
     Trial("docs/READING.md", "| Statement |", "| Statements |", [BELIEVE], ["docs/READING.md:", "not that of the repository", "from here on: Statement"]),
     Trial("crates/parity/specs/InnerPeek.antt", None, PEEK, [BELIEVE], ["crates/parity/specs/InnerPeek.antt:", "is reached from card::card_parity"]),
-    Trial("crates/parity/specs/Parity.antt", "\nparityOf [] = 0\n", "\nparityOf [] = peek\nuse Rattle·parity·specs.specs.InnerPeek.{peek}\n", [BELIEVE],
-          ["parity/InnerPeek.peek", "by parity/Parity.parityOf"]),
+    Trial("crates/parity/specs/Parity.antt", "\nparity_of [] = 0\n", "\nparity_of [] = peek\nuse Rattle.parity.specs.InnerPeek.{peek}\n", [BELIEVE],
+          ["parity/InnerPeek.peek", "by parity/Parity.parity_of"]),
     allowed("word/specs/InnerPeek.antt", PEEK),
     # a picture, and a page, that crates.txt does not give
     Trial("docs/pictures/crates.svg", None, "\n", [CRATES], ["docs/pictures/crates.svg: not what"]),
@@ -177,8 +193,9 @@ TRIALS = [
 UNREADABLE = [
     Trial("crates/parity/src/lib.rt", None, "/* pub fn peek() {} */\n", TESTS, ["crates/parity/src/lib.rt:", "a comment of more than a line"]),
     Trial("crates/promises/proofs/Sources.antt", None, "{- pub a : ℕ -}\n", TESTS, ["Sources.antt:", "a comment in braces"]),
-    Trial("crates/parity/specs/Parity.antt", None, "use Rattle·word.specs.Word\n", [BELIEVE], ["crates/parity/specs/Parity.antt:", "a use that is not understood"]),
+    Trial("crates/parity/specs/Parity.antt", None, "use Rattle.word.specs.Word\n", [BELIEVE], ["crates/parity/specs/Parity.antt:", "a use that is not understood"]),
     Trial("docs/RULES.md", "| [19.4](CARD.md#r19-4) ", "| [19.3](CARD.md#r19-3) ", [RULES, BELIEVE, CRATES], ["docs/RULES.md:", "no theorem in a row of rule 19.4"]),
+    Trial("crates.txt", "\ncard_c staticlib: ", "\nhost staticlib: ", TESTS, ["crates.txt: host is a static library, and not NAME_c of a library NAME"]),
 ]
 
 wrong = []
@@ -218,7 +235,7 @@ def main():
         return 2
     with tempfile.TemporaryDirectory() as folder:
         copy = pathlib.Path(folder) / "copy"
-        shutil.copytree(ROOT, copy, ignore=shutil.ignore_patterns("target", ".git", "__pycache__"))
+        shutil.copytree(ROOT, copy, ignore=shutil.ignore_patterns("target", "out", ".git", "__pycache__"))
         expect(copy, [], 0, "the repository as it is")
         for trial in UNREADABLE:
             before = spoil(copy, trial)

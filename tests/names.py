@@ -9,7 +9,7 @@ As a module, each of these answers with a dictionary in the order of the files:
     signatures()         `crate::name`            -> its parameters, each a name and a type, and its result; of the public functions
     items()              `crate::name`            -> Place     every function, constant, struct and enum, private ones too; of a module `crate::module::name`
     definitions()        `crate/File.name`        -> Place     the top-level names of crates/*/specs/*.antt
-    theorems()           `crate/proofs/File.name` -> Place     those of crates/*/proofs/*.antt, but not of a function's own Proof.antt
+    theorems()           `crate/proofs/File.name` -> Place     those of crates/*/proofs/*.antt, but not of what proves one function, proofs/FUNCTION/*.antt
     parts()              either, `.part` behind   -> Place     a record's fields and a data type's cases, in specs and proofs
     edits()              `crate/label`            -> Place     crates/*/must-fail/*.edit
     cases()              `name`                   -> Place     the cases of second/coverage.rs, each of which a random script must meet
@@ -21,13 +21,17 @@ As a module, each of these answers with a dictionary in the order of the files:
     types()              `crate::Name`            -> Type      the structs and enums of the libraries' lib.rt
     types_named()        definition               -> the structs and enums, `crate::Name`, that its own text names
     groups()             crates.txt: the headings, each with its crates, each with those that it rests on
-    strays()             faults: whatever else is public and a function in a library, as a method, where no page could name it; a crate that rests on a program's part
+    exports()            the static libraries, `card_c` -> `card`: each does nothing but export the functions of that library to C
+    strays()             faults: whatever else is public and a function in a library, as a method, where no page could name it; a crate that rests on a program's part;
+                         a static library whose exports are not its library's functions by name, parameters, answer, clauses and what these words mean, each a call of its function
 
 A Place is a file, from the repository's root, a line, and whether the name is public there. A fault of the text that stops the reading
 (a contract that does not close, a definition named twice, a comment of another kind than `//` and `--`) is raised as Unreadable; the program then exits with 2.
 """
 import collections
+import fnmatch
 import functools
+import os
 import pathlib
 import re
 import sys
@@ -50,6 +54,21 @@ def shown(path):
     return path.relative_to(ROOT).as_posix()
 
 
+def files(pattern):
+    """The files of a pattern, in order. A crate's out/ is rt's, which may write there meanwhile: it is not gone into."""
+    front, deep, name = pattern.partition("/**/")
+    if not deep:
+        return sorted(ROOT.glob(pattern))
+    found = []
+    for top in ROOT.glob(front):
+        for at, folders, own in os.walk(top):
+            place = pathlib.Path(at)
+            if place.parent == ROOT / "crates" and "out" in folders:
+                folders.remove("out")
+            found += [place / file for file in own if fnmatch.fnmatchcase(file, name)]
+    return sorted(found)
+
+
 def put(names, name, place):
     if name in names:
         raise Unreadable(f"{place.file}:{place.line}: {name} stands at {names[name].file}:{names[name].line} too")
@@ -58,6 +77,10 @@ def put(names, name, place):
 
 # ---- crates
 
+# behind a static library's name in crates.txt; how such a name ends
+STATIC, EXPORTS = " staticlib", "_c"
+
+
 @functools.cache
 def groups():
     found, path = [], ROOT / "crates.txt"
@@ -65,7 +88,7 @@ def groups():
         crate, colon, on = line.partition(":")
         if line.startswith("#"):
             found.append((line[1:].strip(), {}))
-        elif found and colon and crate not in crates_of(found):
+        elif found and colon and (crate := crate.removesuffix(STATIC)) not in crates_of(found):
             found[-1][1][crate] = on.split()
         elif line:
             raise Unreadable(f"{shown(path)}:{number}: no heading, and no further crate under one")
@@ -76,6 +99,20 @@ def crates_of(of_groups):
     return [crate for _, own in of_groups for crate in own]
 
 
+@functools.cache
+def exports():
+    lines = text_of(ROOT / "crates.txt").split("\n")
+    static = [line.partition(":")[0].removesuffix(STATIC) for line in lines if not line.startswith("#") and line.partition(":")[0].endswith(STATIC)]
+    for crate in static:
+        if not crate.endswith(EXPORTS) or crate.removesuffix(EXPORTS) not in crates_of(groups()):
+            raise Unreadable(f"crates.txt: {crate} is a static library, and not NAME{EXPORTS} of a library NAME")
+    return {crate: crate.removesuffix(EXPORTS) for crate in static}
+
+
+def is_ours(crate):
+    return (ROOT / "crates" / crate).is_dir()
+
+
 # ---- antt: definitions and theorems
 
 # modifiers; then a name and its type, or a record, data type or set of rules
@@ -84,6 +121,9 @@ TYPED = re.compile(MODIFIERS + r"(?P<names>[^\s(){}:=]\S*(?: [^\s(){}:=]\S*)*?) 
 NAMED = re.compile(MODIFIERS + r"(?P<form>record|data|ruleset) (?P<name>[^\s(){}:=]\S*)\s")
 MODULE = re.compile(r"module \S+.*")
 SKIPPED = ("use ", "pub use ", "pub mod ", "unfolding ", "--")
+
+# the files that prove one function
+OF_FUNCTION = ("Proof.antt", "Invariants.antt", "Answers.antt")
 
 Name = collections.namedtuple("Name", "name line public owner heads")
 
@@ -132,10 +172,10 @@ def antt_names(path):
 
 
 def antt_files(folder):
-    """A crate's antt files in a folder, as (crate, the file's name without its ending, path)."""
-    for path in sorted(ROOT.glob(f"crates/*/{folder}/**/*.antt")):
+    """A crate's antt files in a folder, as (crate, the file's name without its ending, path); not those that prove one function, which have a folder of its name."""
+    for path in files(f"crates/*/{folder}/**/*.antt"):
         inside = path.relative_to(ROOT / "crates")
-        if path.name not in ("Lib.antt", "Proof.antt"):
+        if path.name != "Lib.antt" and not (path.name in OF_FUNCTION and path.parent.name != folder):
             yield inside.parts[0], "/".join(inside.with_suffix("").parts[2:]), path
 
 
@@ -172,11 +212,11 @@ def parts():
 FUNCTION = re.compile(r'^(?P<public>pub )?(?:extern "C" )?fn (?P<name>\w+)', re.M)
 ITEM = re.compile(r'^(?P<public>pub )?(?:(?:extern "C" )?fn|const|struct|enum) (?P<name>\w+)', re.M)
 IMPORT = re.compile(r"^ghost use (?P<path>[^\s;{]+?)(?:\.\{(?P<names>[^}]*)\}| as (?P<alias>\S+));", re.M)
-SPECS = re.compile(r"^Rattle·(?P<crate>\w+?)(?:·specs)?\.specs\.(?P<file>[^.]+)$")
+SPECS = re.compile(r"^Rattle\.(?P<crate>\w+)\.specs\.(?P<file>[^.]+)$")
 CLAUSE = re.compile(r"\b(?P<word>requires|ensures)\b[^{\n]*\{")
-BOUND = re.compile(r"λ ([^.⌜]*)\.\s")
+BOUND = re.compile(r"λ ([^.]*)\.\s")
 # a name with its type behind it
-MADE = re.compile(r"(?<![^\s(){}⌜⌝,;])[^\s(){}⌜⌝,;]+ :(?=\s)")
+MADE = re.compile(r"(?<![^\s(){},;])[^\s(){},;]+ :(?=\s)")
 # a text, a character, a comment of a line's rest, the begin of one of the other kind
 LITERAL_OR_COMMENT = re.compile(r'"(?:\\.|[^"\\\n])*"|\'(?:\\(?:x\w\w|.)|[^\'\\\n])\'|//[^\n]*|/\*')
 # `pub` and, with whatever words between, `fn`; a field has a colon between, any other item a brace, `=` or `;`
@@ -207,11 +247,11 @@ def program_of(crate):
     return next((program for program in programs if crate == program or crate.startswith(program + "_")), None)
 
 
-def rt_files(files="src/*.rt"):
-    """The sources of the libraries, as (crate, path)."""
-    for path in sorted(ROOT.glob(f"crates/*/{files}")):
+def rt_files(pattern="src/*.rt"):
+    """The sources of the libraries, as (crate, path); a static library has only exports of one of them."""
+    for path in files(f"crates/*/{pattern}"):
         crate = path.relative_to(ROOT / "crates").parts[0]
-        if not program_of(crate):
+        if not program_of(crate) and crate not in exports():
             yield crate, path
 
 
@@ -258,6 +298,7 @@ def public_functions():
 def strays():
     faults = [f"crates.txt: {crate} rests on {other}, a part of the program {program_of(other)}"
               for _, own in groups() for crate, on in own.items() for other in on if not own_part(crate, other)]
+    faults += export_faults()
     for crate, path in rt_files("**/*.rt"):
         text = code(path)
         for found in PUBLIC.finditer(text):
@@ -314,7 +355,7 @@ def imports(text):
     names = {}
     for found in IMPORT.finditer(text):
         specs = SPECS.match(found["path"])
-        if not specs:
+        if not specs or not is_ours(specs["crate"]):
             continue
         front = f"{specs['crate']}/{specs['file']}"
         names.update(brought(found, front))
@@ -333,10 +374,13 @@ def closing(text, at, path):
 
 
 def contract(text, at, path):
-    """The clauses of the function whose head stands at `at`, each with its word, and the names of its arguments.
+    """The clauses of the function whose head stands at `at`, each with its word, and the names of its arguments."""
+    clauses, bound, _ = parted(text, at, path)
+    return clauses, bound
 
-    The first brace that opens no clause opens its body.
-    """
+
+def parted(text, at, path):
+    """The same, and the brace that opens its body: the first one that opens no clause."""
     clauses, place, head = [], at, None
     while True:
         brace = text.find("{", place)
@@ -345,24 +389,25 @@ def contract(text, at, path):
         clause = CLAUSE.search(text, place, brace + 1)
         head = head or text[at : clause.start() if clause else brace]
         if not clause:
-            return clauses, set(re.findall(r"(\w+)\s*:", head))
+            return clauses, set(re.findall(r"(\w+)\s*:(?!:)", head)), brace
         place = closing(text, brace + 1, path)
         clauses.append((clause["word"], text[brace + 1 : place - 1]))
 
 
 def words_cited(text, known, bound):
-    """The names of `known` that a text cites, resolved. An operator `_+_` is cited by what stands between the blanks; a field, `.x` or `x =`, is not, nor
-    is what has its type behind it, `x :`, for it is made there."""
-    operators = {name.strip("_"): name for name in known if name.startswith("_") and name.endswith("_") and len(name) > 2}
-    words = re.sub(r"[(){}⌜⌝,;]", " ", MADE.sub("", text)).split()
+    """The names of `known` that a text cites, resolved. An operator `◌+◌` is cited by what stands between the circles; a field, `x.field` or `field =`, is not, but
+    x is; nor is what has its type behind it, `x :`, for it is made there."""
+    operators = {name.strip("◌"): name for name in known if name.startswith("◌") and name.endswith("◌") and len(name) > 2}
+    words = re.sub(r"[(){},;]", " ", MADE.sub("", text)).split()
     for word, following in zip(words, words[1:] + [""]):
-        front, dot, name = word.partition(".")
-        if dot and front + "." in known and name:
+        front, dot, behind = word.partition(".")
+        name = behind.partition(".")[0]
+        if name and front + "." in known and front not in bound:
             yield f"{known[front + '.']}.{name}"
         elif word in operators:
             yield f"{known[operators[word]]}.{operators[word]}"
-        elif word in known and following != "=" and word not in bound:
-            yield f"{known[word]}.{word}"
+        elif front in known and (following != "=" or dot) and front not in bound:
+            yield f"{known[front]}.{front}"
 
 
 def bound_in(clause):
@@ -399,10 +444,60 @@ def cited():
     return {name: contracts()[name] for name in public_functions()}
 
 
+# ---- exports
+
+EXPORTED = "#[unsafe(no_mangle)]\n"
+
+# how a function looks from outside: its parameters and answer, the types that these name, its clauses, and where the words of the clauses have their meaning
+Promise = collections.namedtuple("Promise", "signature types clauses meanings")
+
+
+def promise(crate, path, found):
+    text = code(path)
+    clauses, _, brace = parted(text, found.start(), path)
+    words = {word.partition(".")[0] for _, clause in clauses for word in re.sub(r"[(){},;]", " ", clause).split()}
+    meanings = {}
+    for line in IMPORT.finditer(text):
+        for name, module in brought(line, line["path"]).items():
+            if name.strip("◌").removesuffix(".") in words:
+                meanings[name] = module
+    said = signature(text, found.end(), path)
+    typed = set(types_in(text[found.end() : brace].partition("requires")[0].partition("ensures")[0], crate, text))
+    return Promise((text[found.end() : text.index("(", found.end())], said), typed, [(word, " ".join(clause.split())) for word, clause in clauses], meanings)
+
+
+def export_faults():
+    """What is wrong with the static libraries, where they are not what `exports` says."""
+    for crate, library in exports().items():
+        path, source = (ROOT / "crates" / part / "src" / "lib.rt" for part in (crate, library))
+        for other in (file for ending in ("rt", "antt") for file in files(f"crates/{crate}/**/*.{ending}") if file != path):
+            yield f"{shown(other)}: {crate} has exports of {library} in src/lib.rt, and nothing else"
+        text = code(path)
+        wanted = {found["name"]: found for found in FUNCTION.finditer(code(source)) if found["public"]}
+        here = {found["name"]: found for found in FUNCTION.finditer(text)}
+        for name in sorted(set(wanted) - set(here)):
+            yield f"{shown(path)}: {library}::{name} is not exported"
+        for name, found in here.items():
+            place = f"{shown(path)}:{line_of(text, found.start())}: {name}"
+            if name not in wanted:
+                yield f"{place} is no public function of {library}"
+                continue
+            if not found["public"] or 'extern "C"' not in found[0] or not text.endswith(EXPORTED, 0, found.start()):
+                yield f"{place} is not exported"
+            of, own = promise(library, source, wanted[name]), promise(crate, path, found)
+            for what, one, other in zip(Promise._fields, of, own):
+                if one != other:
+                    yield f"{place} has other {what} than that of {library}"
+            brace = parted(text, found.start(), path)[2]
+            body = re.sub(r"\s", "", text[brace + 1 : closing(text, brace + 1, path) - 1]).replace(",)", ")")
+            if body != f"{library}::{name}({','.join(parameter for parameter, _ in own.signature[1].parameters)})":
+                yield f"{place} is no call of that of {library}"
+
+
 # ---- what a definition or a theorem is made of
 
 USE = re.compile(
-    r"^(?:pub )?use Rattle·(?P<crate>\w+?)(?:·specs|·proofs)?\.(?P<folder>specs|proofs)\.(?P<file>[^.\s{]+)"
+    r"^(?:pub )?use Rattle\.(?P<crate>\w+)\.(?P<folder>specs|proofs)\.(?P<file>[^.\s{]+)"
     r"(?:\.\{(?P<names>[^}]*)\}| as (?P<alias>\S+))$",
     re.M,
 )
@@ -412,6 +507,8 @@ def used(text):
     """What the `use` lines of an antt file bring in: a name, or `alias.`, to `crate/File` or `crate/proofs/File`."""
     names = {}
     for found in USE.finditer(text):
+        if not is_ours(found["crate"]):
+            continue
         front = f"{found['crate']}/{found['file']}" if found["folder"] == "specs" else f"{found['crate']}/proofs/{found['file']}"
         names.update(brought(found, front))
     return names
@@ -475,11 +572,11 @@ def said_by(theorem):
 # ---- the code's own types, as definitions name them
 
 DECLARED = re.compile(
-    r"^(?:pub )?use Rattle·(?P<crate>\w+?)(?:·specs)?\.specs\.declared\.(?P<type>\w+)(?:\.the-variants)?(?:\.\{(?P<names>[^}]*)\}| as (?P<alias>\S+))$",
+    r"^(?:pub )?use Rattle\.(?P<crate>\w+)\.specs\.declared\.(?P<type>\w+)(?:\.TheVariants)?(?:\.\{(?P<names>[^}]*)\}| as (?P<alias>\S+))$",
     re.M,
 )
 TYPE = re.compile(r"^(?:pub )?(?:struct|enum) (?P<name>\w+)[^{\n]*\{", re.M)
-USED_TYPE = re.compile(r"^(?:pub )?use (?P<crate>\w+)::(?P<name>[A-Z]\w*);", re.M)
+USED_TYPE = re.compile(r"^(?:pub )?use (?P<crate>\w+)::(?:(?P<name>[A-Z]\w*)|\{(?P<names>[^{}]*)\});", re.M)
 
 Type = collections.namedtuple("Type", "place names")
 
@@ -487,7 +584,7 @@ Type = collections.namedtuple("Type", "place names")
 def types_in(text, crate, source):
     """The types, `crate::Name`, that a piece of a source names."""
     here = {found["name"]: crate for found in TYPE.finditer(source)}
-    here.update((found["name"], found["crate"]) for found in USED_TYPE.finditer(source))
+    here.update((name.strip(), found["crate"]) for found in USED_TYPE.finditer(source) for name in (found["name"] or found["names"]).split(","))
     for front, name in re.findall(r"(?:\b(\w+)::)?\b([A-Z]\w*)", text):
         if front or name in here:
             yield f"{front or here[name]}::{name}"
@@ -512,8 +609,8 @@ def types_named():
     named = {}
     for crate, stem, path in antt_files("specs"):
         text = text_of(path)
-        for line in re.finditer(r"^(?:pub )?use Rattle·.*$", text, re.M):
-            if not USE.fullmatch(line[0]) and not DECLARED.fullmatch(line[0]):
+        for line in re.finditer(r"^(?:pub )?use Rattle\.(\w+).*$", text, re.M):
+            if is_ours(line[1]) and not USE.fullmatch(line[0]) and not DECLARED.fullmatch(line[0]):
                 raise Unreadable(f"{shown(path)}:{line_of(text, line.start())}: a use that is not understood")
         known = {}
         for found in DECLARED.finditer(text):

@@ -13,9 +13,10 @@ Every public function of a library stands in one row of a table of five columns:
                   beside it. A crate for tests may have fewer.
 
 No function of the section of entry points has a requires.
-Every theorem of crates/promises/proofs whose name ends in `-determined` stands in a row, and `Determines` says there what is written out below.
-Whatever else the page sets in backquotes as a name (`crate::function`, `crate/label`, `crate/File.name`, `a-theorem`) must exist. What is
-wrong is printed with its line, then a summary; the status is 1 where anything is, and 2 where the text cannot be read.
+Every theorem of crates/promises/proofs whose name ends in `_determined` stands in a row, and `Determines` says there what is written out below.
+Whatever else the page sets in backquotes as a name (`crate::function`, `crate/label`, `crate/File.name`, `a_theorem`) must exist; a name of several
+small words is a theorem's, unless a crate has it. What is wrong is printed with its line, then a summary; the status is 1 where anything is, and 2 where
+the text cannot be read.
 """
 import collections
 import functools
@@ -32,36 +33,36 @@ FOR_TESTS = "probe"  # crates whose names begin so
 PROMISES = "promises/proofs/"
 # functions whose contracts the check makes no `Post` of: what the theorem says instead, of the definition that the contract cites
 EXCEPTIONS = {
-    "view::of": "(e : Ended) (size : ℕ) (done unit first second first′ second′ : List ℕ) "
-    "→ Views e size done unit first second → Views e size done unit first′ second′ → (first ≡ first′) × (second ≡ second′)",
+    "view::of": "(e : Ended) (size : ℕ) (done unit first second first' second' : List ℕ) "
+    "→ Views e size done unit first second → Views e size done unit first' second' → (first ≡ first') × (second ≡ second')",
 }
 # what all the other theorems say, of a function's contract `Post` and of a reading `f` of its outcome
 DETERMINES = (
-    "abbrev pub Determines : {O : Type 0} (n : ℕ) (ps : List (PK n)) (r : RK n) "
-    "→ Out n ps r → ((κs : Lfts n) → resT r κs .Denot → AtExit (endedOf n ps r) κs → O) → Type 0 "
-    "Determines n ps r Post f = (κs : Lfts n) (a : Dens κs ps) (x y : resT r κs .Denot) (s t : AtExit (endedOf n ps r) κs) "
+    "abbrev pub Determines : {O : Type 0} (n : ℕ) (ps : List (ParamKind n)) (r : ResultKind n) "
+    "→ Out n ps r → ((κs : Lfts n) → (res_t r κs).Denot → AtExit (ended_of n ps r) κs → O) → Type 0 "
+    "Determines n ps r Post f = (κs : Lfts n) (a : Dens κs ps) (x y : (res_t r κs).Denot) (s t : AtExit (ended_of n ps r) κs) "
     "→ Post κs a x s → Post κs a y t → f κs x s ≡ f κs y t"
 )
-# where the words of these have their meaning
+# where the words of these have their meaning; the last of them is a part of what is lent, and no word that a file may have
 MEANINGS = {
-    "Determines": "Rattle·promises·proofs.proofs.Determined",
-    "Views": "Rattle·view.specs.View",
-    "now": "denote.Ref",
-    "_≡_": "mathlib.Core.Path",
-    **dict.fromkeys(["Out", "endedOf", "PK", "RK", "Dens", "resT"], "borrow.Fn.Kinds"),
-    "Lfts": "contract.Lifetimes",
-    "AtExit": "denote.Triple.Clauses",
+    "Determines": ["Rattle.promises.proofs.Determined"],
+    "Views": ["Rattle.view.specs.View"],
+    "◌≡◌": ["Rattle.std.specs.Prelude", "mathlib.Core.Path"],
+    **dict.fromkeys(["Out", "ended_of", "ParamKind", "ResultKind", "Dens", "res_t"], ["borrow.Fn.Kinds"]),
+    "Lfts": ["contract.Lifetimes"],
+    "AtExit": ["denote.Triple.Clauses"],
+    "now": [],
 }
 
 FUNCTION = re.compile(r"[a-z_0-9]+::[a-z_0-9]+")
 EDIT = re.compile(r"[a-z_0-9]+/[a-z_0-9]+")
 DEFINITION = re.compile(r"[a-z_0-9]+/(?:proofs/)?[A-Z]\w*\.\S+")
-THEOREM = re.compile(r"[a-z0-9]+(?:-[a-z0-9]+)+")
+THEOREM = re.compile(r"[a-z0-9]+(?:_[a-z0-9]+)+")
 
 READING = re.compile(r"Determines \{O = [^{}]+\} \d+ (?P<ps>\S+)\.ps (?P<r>\S+)\.r (?P<post>\S+)\.Post \(λ κs r e\. (?P<read>.*)\)")
 GATHERED = re.compile(r"record \{ (.*) \}")
 # the answer, the bytes of one that is a slice, what a parameter has at exit
-READ = re.compile(r"r|now r|now \(e(?: \.1)* \.0\)")
+READ = re.compile(r"r|r\.now|e(?:\.1)*\.0\.now")
 # a type of the code: whether it is lent, for writing, and what is
 LENT = re.compile(r"(?P<lent>&\s*(?:'\w+\s+)?(?P<writing>mut\b)?)?(?P<what>.*)", re.S)
 
@@ -195,7 +196,7 @@ def statements():
         for module, alias in re.findall(r"^(?:pub )?use (\S+) as (\S+)$", text, re.M):
             if alias in aliases:
                 raise names.Unreadable(f"{names.shown(path)}: two modules are named {alias}")
-            aliases[alias] = re.sub(r"^Rattle·(\w+)\.proofs\.(\w+)\.(Kinds|Reads)$", r"\1::\2 \3", module)
+            aliases[alias] = re.sub(r"^Rattle\.(\w+)\.proofs\.(\w+)\.(Kinds|Reads)$", r"\1::\2 \3", module)
         for stated in names.STATED.finditer(text):
             place = names.Place(names.shown(path), names.line_of(text, stated.start()), True)
             if stated[1] in found:
@@ -206,14 +207,14 @@ def statements():
 
 def at_exit(place):
     """How a theorem reads the parameter at a place, counted from 0, as the call leaves it."""
-    return f"now (e{' .1' * place} .0)"
+    return f"e{'.1' * place}.0.now"
 
 
 def outcome_of(function):
     """What a function leaves, as (what it is, the readings that have all of it): its answer, and what was lent for writing."""
     parameters, result = names.signatures()[function]
     if result not in ("", "()"):
-        yield "the answer", ["now r", "r"] if LENT.match(result)["lent"] else ["r"]
+        yield "the answer", ["r.now", "r"] if LENT.match(result)["lent"] else ["r"]
     for place, (name, kind) in enumerate(parameters):
         if LENT.match(kind)["writing"]:
             yield f"what `{name}` has at exit", [at_exit(place)]
@@ -274,7 +275,7 @@ def check_outcome(row, say):
         if read.isdisjoint(ways):
             say(row.line, f"{row.function}: {what}, `{ways[0]}`, is not read by {named}")
     for reading in sorted(read - {way for _, ways in left for way in ways}):
-        if reading.startswith("now (e"):
+        if reading.startswith("e."):
             say(row.line, f"{row.function}: {named} reads `{reading}`, where nothing is lent for writing")
     for kind in hidden(row.function):
         say(row.line, f"{row.function}: what it leaves in {kind} is read by no theorem of this form")
@@ -283,7 +284,7 @@ def check_outcome(row, say):
 def check_theorems(seen, faults):
     """Each theorem stands in a row, so that it is held to its function; and says what it should."""
     for name, stated in statements().items():
-        if name.endswith("-determined") and name not in seen:
+        if name.endswith("_determined") and name not in seen:
             faults.append(f"{stated.place.file}:{stated.place.line}: {name} stands in no row of {PAGE}")
     for path, text in proofs():
         own = dict(names.own_texts(path))
@@ -291,12 +292,12 @@ def check_theorems(seen, faults):
         for module, items in re.findall(r"^(?:pub )?use (\S+)\.\{([^}]*)\}", text, re.M):
             for item in items.split(","):
                 brought[item.split()[-1]].add((module, item.split()[0]))
-        for word, module in MEANINGS.items():
+        for word, modules in MEANINGS.items():
             if word == "Determines" and path.stem == "Determined":
                 if one_line(own.get(word, "")) != DETERMINES:
                     faults.append(f"{names.shown(path)}: {word} does not say what is written out in tests/promises.py")
-            elif word in own or not brought[word] <= {(module, word)}:
-                faults.append(f"{names.shown(path)}: {word} is not that of {module}")
+            elif word in own or not brought[word] <= {(module, word) for module in modules}:
+                faults.append(f"{names.shown(path)}: {word} is not that of {' or '.join(modules) or 'what is lent'}")
 
 
 def check_definition(row, say):
@@ -344,6 +345,8 @@ def check_names(lines, say):
         found[kind] = set()
         for number, line in enumerate(lines, 1):
             for name in matching(pattern, line):
+                if kind == "theorem" and name not in known and name in names.crates_of(names.groups()):
+                    continue
                 found[kind].add(name)
                 if name not in known:
                     say(number, f"there is no {kind} {name}")

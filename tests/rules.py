@@ -80,7 +80,7 @@ RULED = re.compile(r"\[(\d+\.\d+)\]\(CARD\.md#(r\d+-\d+)\) +\S")
 NAMED = re.compile(rf"\b(?:[Rr]ules?|CARD(?:\.md)?)\s+{NUMBER}(?:(?:,| to| and| or)\s+(?:rules?\s+)?{NUMBER})*")
 ANCHORED = re.compile(r"CARD\.md#([\w-]+)")
 # what a definition of a refusal's number says; a row of the pointer table, as it is proved
-REFUSED = re.compile(r"^(?:numberOf|traceNumber|catalogueNumber|lineNumber|importNumber) .* = (\d+)$", re.M)
+REFUSED = re.compile(r"^(?:number_of|trace_number|catalogue_number|line_number|import_number) .* = (\d+)$", re.M)
 PROVED = re.compile(r"^ +(?:∷ )?row (\d+) 0x([0-9a-f]{4}) \(?(?:Adjusted )?(\w+).* (\d+)$", re.M)
 TAKEN = {"NewData": "new data"}
 
@@ -214,7 +214,7 @@ def check_named(rules, faults):
             if said not in known:
                 faults.add(number, f"there is no rule {said}", CARD)
     anchors = {f"r{number.replace('.', '-')}" for number in known} | set(map(slug, headings_of(CARD)))
-    for path in sorted({path for pattern in PAGES for path in names.ROOT.glob(pattern) if path.is_file() and path != CARD}):
+    for path in sorted({path for pattern in PAGES for path in names.files(pattern) if path.is_file() and path != CARD}):
         text = names.text_of(path)
         for found in NAMED.finditer(text):
             for said in re.findall(NUMBER, found[0]):
@@ -373,12 +373,12 @@ def check_complete(standing, ruled, faults):
     for stray in names.strays():
         faults.add(None, stray)
     for name, place in names.public_functions().items():
-        crate, _, own = name.replace("_", "-").partition("::")
+        crate, _, own = name.partition("::")
         if name.split("::")[0] in TESTS:
             continue
         if name not in standing:
             faults.add(None, f"{name} ({place.file}:{place.line}), a public function, stands in no table")
-        if not theorems & {f"{crate}-{own}-determined", f"{own}-determined"}:
+        if not theorems & {f"{crate}_{own}_determined", f"{own}_determined"}:
             faults.add(None, f"{name} ({place.file}:{place.line}): no theorem of crates/promises/proofs says that its promise allows one outcome")
         for definition in names.cited()[name]:
             if definition not in standing:

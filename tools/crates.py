@@ -59,7 +59,8 @@ def source(crate):
 
 @functools.cache
 def kind(crate):
-    """What marks a crate: one of KINDS."""
+    """What marks a crate: one of KINDS; one that exports another's functions to C is marked as that one is."""
+    crate = names.exports().get(crate, crate)
     if crate in rules.TESTS:
         return "tests"
     if names.program_of(crate):

@@ -930,7 +930,7 @@ def bench_command(given):
     if given is None:
         if not os.access(BENCH, os.X_OK):
             raise script.Fault(
-                "there is no bench yet at target/bin/bench. `rt check bench` builds the proved one, in some minutes.\n"
+                "there is no bench yet at target/bin/bench. `tools/build bench` proves and builds the one of this repository, in some minutes.\n"
                 "The second program plays the same scripts; it is tested and not proved. It is built in seconds:\n"
                 "    mkdir -p target/host && rustc --edition 2021 -O second/main.rs -o target/host/second\n"
                 "and then used with    --bench target/host/second bench")

@@ -19,8 +19,7 @@ use importing::Imported;
 use records::{PlaceList, Refusal};
 
 // The whole of `src` to `dst` where they are as long; else nothing.
-#[unsafe(no_mangle)]
-pub extern "C" fn probe_copy(src: &[u8], dst: &mut [u8]) -> bool
+pub fn probe_copy(src: &[u8], dst: &mut [u8]) -> bool
     ensures { (result ≡ eqb (length src.now) (length dst.old)) × (dst.new ≡ cond (eqb (length src.now) (length dst.old)) src.now dst.old) }
 {
     if src.len() != dst.len() {
@@ -31,32 +30,28 @@ pub extern "C" fn probe_copy(src: &[u8], dst: &mut [u8]) -> bool
 }
 
 // The start byte that the characters of a trace get.
-#[unsafe(no_mangle)]
-pub extern "C" fn probe_start_byte(characters: &[u8]) -> u8
+pub fn probe_start_byte(characters: &[u8]) -> u8
     ensures { result ≡ start_byte characters.now }
 {
     trace_message::start_byte(characters)
 }
 
 // The word of a value.
-#[unsafe(no_mangle)]
-pub extern "C" fn probe_plain_word(value: u16) -> u16
+pub fn probe_plain_word(value: u16) -> u16
     ensures { result ≡ plain_word value }
 {
     word::plain(value)
 }
 
 // The word of an adjustment.
-#[unsafe(no_mangle)]
-pub extern "C" fn probe_adjusting_word(places: u16, value: u16) -> u16
+pub fn probe_adjusting_word(places: u16, value: u16) -> u16
     ensures { result ≡ inverted_word places value }
 {
     word::adjusting(places, value)
 }
 
 // How many bits of a word, at some places, differ from an offset's.
-#[unsafe(no_mangle)]
-pub extern "C" fn probe_inverted(places: u16, w: u16, offset: u16) -> u32
+pub fn probe_inverted(places: u16, w: u16, offset: u16) -> u32
     ensures { result ≡ inverted places w offset }
 {
     word::inverted_at(places, w, offset)
@@ -97,8 +92,7 @@ fn pack_checked(c: Checked) -> u64
 }
 
 // The check of a catalogue.
-#[unsafe(no_mangle)]
-pub extern "C" fn probe_check(s: &[u8]) -> u64
+pub fn probe_check(s: &[u8]) -> u64
     ensures { result ≡ packed_check (counted_of old_kind s.now) }
 {
     let c = catalogue::check(s);
@@ -116,8 +110,7 @@ fn pack_found(f: Found) -> u64
 }
 
 // The lookup of a circuit in a catalogue, with the characters of its trace.
-#[unsafe(no_mangle)]
-pub extern "C" fn probe_lookup(s: &[u8], number: u32, characters: &mut [u8; 15]) -> u64
+pub fn probe_lookup(s: &[u8], number: u32, characters: &mut [u8; 15]) -> u64
     ensures { (result ≡ packed_found (lookup_of old_kind s.now number).found) × (characters.new ≡ (lookup_of old_kind s.now number).trace) }
 {
     let l = catalogue::lookup(s, number);
@@ -128,8 +121,7 @@ pub extern "C" fn probe_lookup(s: &[u8], number: u32, characters: &mut [u8; 15])
 }
 
 // The listing of a catalogue: its length, and the text from the start of the buffer on.
-#[unsafe(no_mangle)]
-pub extern "C" fn probe_list(s: &[u8], text: &mut [u8; 15898]) -> usize
+pub fn probe_list(s: &[u8], text: &mut [u8; 15898]) -> usize
     ensures { Listed old_kind s.now text.old text.new result }
 {
     listing::list(s, text)
@@ -145,8 +137,7 @@ fn pack_imported(i: Imported) -> u64
 }
 
 // The import of a text, with the catalogue from the start of the buffer on.
-#[unsafe(no_mangle)]
-pub extern "C" fn probe_import(s: &[u8], catalogue: &mut [u8; 10752]) -> u64
+pub fn probe_import(s: &[u8], catalogue: &mut [u8; 10752]) -> u64
     ensures { (result ≡ packed_imported (import_of s.now)) × (catalogue.new ≡ left_by (import_of s.now) (result_of s.now) catalogue.old) }
 {
     let i = importing::import(s, catalogue);
@@ -163,8 +154,7 @@ fn pack_exported(e: Exported) -> u64
 }
 
 // The export of a catalogue, with the text from the start of the buffer on.
-#[unsafe(no_mangle)]
-pub extern "C" fn probe_export(s: &[u8], text: &mut [u8; 23552]) -> u64
+pub fn probe_export(s: &[u8], text: &mut [u8; 23552]) -> u64
     ensures { (result ≡ packed_exported (export_answer (length (export_of s.now)) (check_of old_kind s.now))) × (text.new ≡ put 0 (export_of s.now) text.old) }
 {
     let e = exporting::export(s, text);

@@ -126,22 +126,14 @@ fn show(x: Received) -> Shown
 }
 
 // The state of a sink that has seen nothing.
-#[unsafe(no_mangle)]
-pub extern "C" fn probe_fresh_sink() -> Plain
+pub fn probe_fresh_sink() -> Plain
     ensures { result ≡ plain_of sink.fresh_sink }
 {
     plain_of(sink::fresh())
 }
 
 // The sink.
-#[unsafe(no_mangle)]
-pub extern "C" fn probe_sink(
-    s: Plain,
-    e: Settings,
-    unit: &[u8],
-    held: &mut [u8],
-    done: &mut [u8],
-) -> Shown
+pub fn probe_sink(s: Plain, e: Settings, unit: &[u8], held: &mut [u8], done: &mut [u8]) -> Shown
     ensures { Shows s e unit.now held.old done.old result held.new done.new }
 {
     show(sink::sink(state_of(s), e, unit, held, done))
@@ -149,8 +141,7 @@ pub extern "C" fn probe_sink(
 
 // The container that ended k-th in a unit, counted from 0, taken through the view: its bytes are written to the start of `out`, and their number is answered. Where so many
 // did not end, or `out` is shorter than the container, nothing is written, and the answer is 0.
-#[unsafe(no_mangle)]
-pub extern "C" fn probe_handed<'a>(
+pub fn probe_handed<'a>(
     ended: Ended,
     unit: &'a [u8],
     done: &'a [u8],

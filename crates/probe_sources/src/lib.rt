@@ -37,16 +37,14 @@ fn pack_sent(x: Sent) -> u32
 }
 
 // The state of a container source that has sent nothing.
-#[unsafe(no_mangle)]
-pub extern "C" fn probe_fresh_container() -> u32
+pub fn probe_fresh_container() -> u32
     ensures { result ≡ packed_source containers.fresh_container_source }
 {
     pack_source(container_source::fresh())
 }
 
 // The container source.
-#[unsafe(no_mangle)]
-pub extern "C" fn probe_container(
+pub fn probe_container(
     payload: &[u8],
     container: &mut [u8],
     characters: &[u8; 15],
@@ -90,8 +88,7 @@ fn pack_made(x: Made) -> u64
 }
 
 // The state of a unit source that has sent nothing.
-#[unsafe(no_mangle)]
-pub extern "C" fn probe_fresh_unit() -> u64
+pub fn probe_fresh_unit() -> u64
     ensures { result ≡ packed_unit units.fresh_unit_source }
 {
     pack_unit(unit_source::fresh())
@@ -110,8 +107,7 @@ fn adjustment(asked: u8) -> Adjustment
 }
 
 // The unit source: asked 0 for nothing, 1 for an increment, any other number for a decrement.
-#[unsafe(no_mangle)]
-pub extern "C" fn probe_unit(
+pub fn probe_unit(
     current: &[u8],
     next: &[u8],
     unit: &mut [u8],
@@ -126,8 +122,7 @@ pub extern "C" fn probe_unit(
 }
 
 // The payload call.
-#[unsafe(no_mangle)]
-pub extern "C" fn probe_payload(container: &[u8], payload: &mut [u8], ais: bool) -> u8
+pub fn probe_payload(container: &[u8], payload: &mut [u8], ais: bool) -> u8
     ensures { Probes result payload.new (probed_handed (payload_call au4 container.now ais payload.old)) }
 {
     refusals::number(container::payload_call(container, ais, payload))
