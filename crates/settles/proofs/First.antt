@@ -35,7 +35,7 @@ module _ (noneBefore : ℕ) (s : Shape) (m : Making) (r : Run) (f : Fit s) (i : 
     first_good =
         record {
           fine = fine;
-          under_way_lem = ap length (box-is 0) ∙ made_full s f m label r.settings i.first_in_lem fitting fine.settings_fine given 0;
+          under_way = ap length (box-is 0) ∙ made_full s f m label r.settings i.first_in fitting fine.settings_fine given 0;
           label = label;
           label_fits = fitting;
           given = λ k. given (suc k);
@@ -45,11 +45,11 @@ module _ (noneBefore : ℕ) (s : Shape) (m : Making) (r : Run) (f : Fit s) (i : 
     pub first_settles : five ≤ noneBefore → 64 * s.step ≤ s.size → Settles most s r (log_of s m r)
     first_settles some steps =
         let later-in : InRange s (later s m) r =
-        record { state_in = i.state_in; total_low = i.total_low; whole = i.whole; source_in = i.source_in; first_in_lem = made_low s m.first m.calls 1 i.first_in_lem }
+        record { state_in = i.state_in; total_low = i.total_low; whole = i.whole; source_in = i.source_in; first_in = made_low s m.first m.calls 1 i.first_in }
         in
         let h = settles noneBefore s (later s m) r some f steps later-in first_supplied first_good in
         record {
-          made_done = made_done s f m label r.settings i.first_in_lem fitting fine.settings_fine given;
+          made_done = made_done s f m label r.settings i.first_in fitting fine.settings_fine given;
           sent_done = h.sent_done;
           fed_done = h.fed_done;
           few = h.few;
@@ -58,5 +58,5 @@ module _ (noneBefore : ℕ) (s : Shape) (m : Making) (r : Run) (f : Fit s) (i : 
           in_order = h.in_order;
           no_column = h.no_column;
           settled = h.settled;
-          no_defect_lem = h.no_defect_lem;
+          no_defect = h.no_defect;
         }

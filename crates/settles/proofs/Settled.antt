@@ -172,17 +172,17 @@ pub record InRange (s : Shape) (m : Making) (r : Run) : Type 0 where
   pub total_low : r.state.total ≤ 65535
   pub whole : Whole r.state.monitor
   pub source_in : sources.InRange s r.source
-  pub first_in_lem : m.first.place ≤ 15
+  pub first_in : m.first.place ≤ 15
 
 pub settles : (noneBefore : ℕ) (s : Shape) (m : Making) (r : Run) → five ≤ noneBefore → Fit s → 64 * s.step ≤ s.size → InRange s m r → Supplied s m r → Good noneBefore s m r → Settles most s r (log_of s m r)
 unfolding path_at
 settles noneBefore s m r some f steps i box-is g =
     let place = m.first.place + 15 in
     let fine = g.fine.settings_fine in
-    let made = made_done s f m g.label r.settings i.first_in_lem g.label_fits fine g.given in
-    let full = box_full s f m g.label r.settings i.first_in_lem g.label_fits fine g.given r.box box-is g.under_way_lem in
-    let like = box_like s f m g.label r.settings i.first_in_lem g.label_fits fine g.given r.box box-is in
-    let chain = box_chained s f m g.label r.settings i.first_in_lem g.label_fits fine g.given r.box box-is in
+    let made = made_done s f m g.label r.settings i.first_in g.label_fits fine g.given in
+    let full = box_full s f m g.label r.settings i.first_in g.label_fits fine g.given r.box box-is g.under_way in
+    let like = box_like s f m g.label r.settings i.first_in g.label_fits fine g.given r.box box-is in
+    let chain = box_chained s f m g.label r.settings i.first_in g.label_fits fine g.given r.box box-is in
     let ready : Ready s r (path_at s r 0) =
     record {
       source_fine = record { offset_low = i.source_in.offset_low; wait_low = i.source_in.wait_low; full = full; unit_is = g.fine.unit_is };
@@ -208,7 +208,7 @@ settles noneBefore s m r some f steps i box-is g =
       in_order = λ n units w. in_order_all s r u units n (omega arith);
       no_column = λ n w. clean_then s r u g.label place (number_at s r u (suc n)) e (λ j l _. like j l) (λ j l _. chain j l) steps n w (omega arith);
       settled = settled;
-      no_defect_lem = λ n w. free_then s r u g.label place (number_at s r u (suc n)) e (λ j l _. like j l) (λ j l _. chain j l) steps n w (omega arith);
+      no_defect = λ n w. free_then s r u g.label place (number_at s r u (suc n)) e (λ j l _. like j l) (λ j l _. chain j l) steps n w (omega arith);
     }
 
 -- ---- and so from every state that calls can reach
@@ -220,7 +220,7 @@ reached_in s m r f h =
       total_low = rw h.state_is (reached_total s h.received);
       whole = rw h.state_is (reached_whole s h.received);
       source_in = rw h.source_is (sources.source_low s _ h.asked (record { offset_low = omega arith; wait_low = omega arith }));
-      first_in_lem = rw h.first_is (sources.made_low s container-source.fresh_container_source h.made h.many (omega arith));
+      first_in = rw h.first_is (sources.made_low s container-source.fresh_container_source h.made h.many (omega arith));
     }
 
 -- for every shape that fits, with no adjustment in the first five units or more

@@ -52,8 +52,8 @@ module _ (s : Shape) (f : Fit s) (m : Making) (label : ℕ) (e : Settings) (low 
 
     module _ (box : ℕ → List ℕ) (box-is : (k : ℕ) → box (suc k) ≡ container_at s m.first m.calls k) where
       pub box_full : length (box 0) ≡ s.size → (k : ℕ) → length (box k) ≡ s.size
-      box_full under_way_lem zero = under_way_lem
-      box_full under_way_lem (suc k) = ap length (box-is k) ∙ made_full k
+      box_full under_way zero = under_way
+      box_full under_way (suc k) = ap length (box-is k) ∙ made_full k
 
       -- the first call's place is that of container 1: 15 and one are a message
       pub box_like : (k : ℕ) → 0 < k → Sent s.columns label e box (m.first.place + 15) k

@@ -194,7 +194,7 @@ Supplied s m r = (k : ℕ) → r.box (suc k) ≡ sending.container_at s m.first 
 pub record Good (noneBefore : ℕ) (s : Shape) (m : Making) (r : Run) : Type 0 where
   pub fine : Fine s r
   -- container 0 is under way as the run begins: it was made before, and its bytes may be any, of another label or trace too
-  pub under_way_lem : length (r.box 0) ≡ s.size
+  pub under_way : length (r.box 0) ≡ s.size
   -- the label is one to expect, the same one throughout
   pub label : ℕ
   pub label_fits : fits label r.settings.label ≡ true
@@ -221,7 +221,7 @@ pub record Settles (within : ℕ) (s : Shape) (r : Run) (g : Log) : Type 0 where
   pub no_column : (n : ℕ) → within ≤ n → violated_told (g.received n).ended ≡ replicate (g.made n).ended 0x00
   -- "and no defect", none of 01's four, at the end of the unit, which is settled
   pub settled : (n : ℕ) → within ≤ n → (g.received n).settled ≡ true
-  pub no_defect_lem : (n : ℕ) → within ≤ n → none_stands (g.received n).defects ≡ true
+  pub no_defect : (n : ℕ) → within ≤ n → none_stands (g.received n).defects ≡ true
 
 -- of a shape: every run of a good signal, from any state that calls can reach
 abbrev pub Demand : ℕ → ℕ → Shape → Type 0

@@ -94,7 +94,7 @@ module _ (place : ℕ) (low : place ≤ 14) (ask : ℕ → Adjustment) where
   good noneBefore state spaced =
       record {
         fine = record { settings_fine = refl; trace_is = refl; unit_is = refl; held_is = refl; done_is = refl };
-        under_way_lem = container_full ((place + 0) % 16);
+        under_way = container_full ((place + 0) % 16);
         label = 0x12;
         label_fits = fits_own 0x12;
         given = λ k. record { label_is = refl; trace_is = refl; no_remote = refl; violations_low = omega arith; payload_is = refl; container_is = refl };

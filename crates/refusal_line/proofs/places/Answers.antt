@@ -1,0 +1,12 @@
+-- `refusal_line::places` meets its contract: no place, one or two, by their count. Assumes nothing.
+use Rattle.refusal_line.proofs.Refusing.{places_none, places_one, places_two}
+use Rattle.refusal_line.proofs.places.Goals as goal
+
+pub returns-then-p-eq0 : goal.returns-then-p-eq0
+returns-then-p-eq0 c = search places_none
+
+pub returns-then-p-eq1 : goal.returns-then-p-eq1
+returns-then-p-eq1 c = search places_one
+
+pub returns : goal.returns
+returns c = search places_two
