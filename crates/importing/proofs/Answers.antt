@@ -15,13 +15,12 @@ use Rattle.refusals.specs.Refusals.{Fault, due, no_at, given_at, rows_at, said_b
 use Rattle.refusals.proofs.Wrong.{due_false, Numbered, numbered_row, numbered_rows, numbered_both}
 use Rattle.refusals.proofs.Joined.{joined_none, rows_none}
 use Rattle.records.specs.Record.{old_kind}
-use Rattle.records.specs.Refusals.{catalogue_number, catalogue_places, catalogue_says}
+use Rattle.records.specs.Refusals.{catalogue_says}
 use Rattle.records.specs.Faults.{first_fault}
 use Rattle.records.specs.declared.Refusal as records-refusal
 use Rattle.records.proofs.Numbers.{behind}
 use Rattle.records.proofs.Places.{old_serves}
 use Rattle.catalogue.specs.Catalogue.{faults, records, catalogue_answer, check_of, Checks}
-use Rattle.catalogue.specs.declared.Checked.{Checked}
 use Rattle.catalogue.specs.declared.Checked.TheVariants as checked
 use Rattle.catalogue.specs.declared.Counted.{Counted}
 use Rattle.catalogue.proofs.Answers.{good_length, checked_is, file_numbered}

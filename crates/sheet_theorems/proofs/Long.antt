@@ -10,8 +10,7 @@ use lib.Seq.{drop-append-le}
 use borrow.Author.Tests.{lt-ltb, le-ltb, le-leb, lt-leb, ltb-true, ltb-false}
 use Rattle.refusals.specs.Refusals.{Fault, due}
 use Rattle.split.specs.Split.{up_to}
-use Rattle.split.proofs.Laws.{length_up_to}
-use Rattle.sheet_line.specs.Line.{number_field, label_field, flags_field, well_formed, line_faults, line_judged}
+use Rattle.sheet_line.specs.Line.{well_formed, line_faults, line_judged}
 use Rattle.sheet_line.specs.declared.LineFault.{LineFault}
 use Rattle.sheet_line.specs.declared.LineFault.TheVariants.{Malformed}
 use Rattle.sheet_line.specs.declared.LineAnswer.TheVariants.{Wrong}

@@ -12,7 +12,7 @@ use Rattle.laws.proofs.Tests.{and_left, and_right}
 use Rattle.refusals.specs.Refusals.{due, rows_at}
 use Rattle.refusals.proofs.Joined.{joined_none}
 use Rattle.settings.specs.Settings.{trace_faults}
-use Rattle.settings.proofs.Passes.{Character, by_characters}
+use Rattle.settings.proofs.Passes.{by_characters}
 use Rattle.text.specs.Text.{decimal_of, hex_of}
 use Rattle.records.specs.Record.{old_kind, record_at, circuit_in, label_in, trace_in, flags_in}
 use Rattle.records.specs.Faults.{record_faults}

@@ -1,5 +1,5 @@
 -- The bytes of a unit that is sent, of 01, "Layouts": "H1 Y Y H2 1* 1* H3 H3 H3, then 2349 bytes in pointer order". The header is three groups, of three bytes in AU-4.
-use Rattle.std.specs.Prelude.{ℕ, ◌+◌, ◌-◌, ◌*◌, List, ◌∷◌, ◌++◌, take, drop, replicate}
+use Rattle.std.specs.Prelude.{ℕ, ◌-◌, ◌*◌, List, ◌∷◌, ◌++◌, take, drop, replicate}
 use Rattle.word.specs.Word.{h1_of, h2_of}
 
 -- a group of the header: its first byte, and the others

@@ -1,9 +1,7 @@
 -- `container::rows` meets its contract: the rows written, and those to come, are the container. Assumes nothing.
 use mathlib.Core.Path.{refl}
-use Prim.Native.Nat.{◌+◌, ◌≤◌, ◌-◌}
 use native.Mathlib.Omega.{arith}
 use borrow.Author.Rules.{rules}
-use lib.ListN.{length}
 use Rattle.copier.proofs.Parts.{parts_alike}
 use Rattle.container.proofs.RowLaws.{row_room, room_left, left_next, rows_long, rows_turn, rows_end}
 use Rattle.container.proofs.rows.Goals as goal

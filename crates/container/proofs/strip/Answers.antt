@@ -1,9 +1,7 @@
 -- `container::strip` meets its contract: the rows taken, and those to come, are the payload. Assumes nothing.
 use mathlib.Core.Path.{refl}
-use Prim.Native.Nat.{◌+◌, ◌≤◌, ◌-◌}
 use native.Mathlib.Omega.{arith}
 use borrow.Author.Rules.{rules}
-use lib.ListN.{length, take}
 use Rattle.copier.proofs.Parts.{parts_alike}
 use Rattle.container.proofs.RowLaws.{taken_room, payload_room, left_next, strip_long, strip_turn, strip_end}
 use Rattle.container.proofs.strip.Goals as goal

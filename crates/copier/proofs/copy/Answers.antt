@@ -1,6 +1,5 @@
 -- `copier::copy` meets its contract: the first i bytes are `src`'s. Assumes nothing.
 use mathlib.Core.Path.{refl}
-use Prim.Native.Nat.{◌-◌}
 use native.Mathlib.Omega.{arith}
 use Rattle.copier.proofs.Turns.{still_long, copied_more, copied_all}
 use Rattle.copier.proofs.copy.Goals as goal

@@ -1,6 +1,5 @@
 -- `copier::fill` meets its contract: the first i bytes are `byte`. Assumes nothing.
 use mathlib.Core.Path.{refl}
-use Prim.Native.Nat.{◌-◌}
 use native.Mathlib.Omega.{arith}
 use Rattle.copier.proofs.Turns.{still_long, filled_more, filled_all}
 use Rattle.copier.proofs.fill.Goals as goal

@@ -1,6 +1,5 @@
 -- `digits::digits_only` meets its contract: all before i are digits, so the rest decides. Assumes nothing.
 use mathlib.Core.Path.{refl}
-use Prim.Native.Nat.{◌-◌}
 use native.Mathlib.Omega.{arith}
 use Rattle.digits.proofs.Laws.{only_hit, only_turn, only_end}
 use Rattle.digits.proofs.digits_only.Goals as goal

@@ -1,6 +1,5 @@
 -- `digits::value` meets its contract: what the digits before i say, with the rest still to say, is the number. Assumes nothing.
 use mathlib.Core.Path.{refl}
-use Prim.Native.Nat.{◌-◌}
 use native.Mathlib.Omega.{arith}
 use borrow.Author.Rules.{rules}
 use Rattle.digits.proofs.Laws.{value_digit, value_rest, value_turn, value_end, value_grows, value_short, value_less}

@@ -1,6 +1,5 @@
 -- `importing::first_fault` meets its contract: nothing is wrong with the lines before the place, so the others decide. Assumes nothing.
 use mathlib.Core.Path.{refl}
-use Prim.Native.Nat.{◌-◌}
 use native.Mathlib.Omega.{arith}
 use Rattle.importing.proofs.Faulty.{fault_hit, fault_turn, fault_end}
 use Rattle.importing.proofs.first_fault.Goals as goal

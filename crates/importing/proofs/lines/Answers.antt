@@ -1,5 +1,4 @@
 -- `importing::lines` meets its contract: the lines counted, with those of the rest, are all. Assumes nothing.
-use Prim.Native.Nat.{◌-◌}
 use native.Mathlib.Omega.{arith}
 use Rattle.importing.proofs.Walk.{count_turn, count_end}
 use Rattle.importing.proofs.lines.Goals as goal

@@ -1,5 +1,4 @@
 -- `importing::records_of` meets its contract: the records of the lines before the place are written. Assumes nothing.
-use Prim.Native.Nat.{◌-◌}
 use native.Mathlib.Omega.{arith}
 use Rattle.importing.proofs.Making.{half_start, half_turn, half_end, line_sound, record_room}
 use Rattle.importing.proofs.records_of.Goals as goal

@@ -1,6 +1,5 @@
 -- `parity::each` meets its contract: what is gathered, with the parity of what is left, is the parity of all. Assumes nothing.
 use mathlib.Core.Path.{refl}
-use Prim.Native.Nat.{◌-◌}
 use native.Mathlib.Omega.{arith}
 use Rattle.parity.proofs.Laws.{parity_turn, parity_end}
 use Rattle.parity.proofs.each.Goals as goal

@@ -1,5 +1,4 @@
 -- `parity::four` meets its contract: what is gathered, with the parity of what is left of the four parts, is the parity of all. Assumes nothing.
-use Prim.Native.Nat.{◌-◌}
 use borrow.Author.Rules.{rules}
 use native.Mathlib.Omega.{arith}
 use Rattle.parity.proofs.Laws.{four_start, four_turn, four_end}

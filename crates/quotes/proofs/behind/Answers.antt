@@ -1,6 +1,5 @@
 -- `quotes::behind` meets its contract: what is behind the rest is behind the whole. Assumes nothing.
 use mathlib.Core.Path.{refl}
-use Prim.Native.Nat.{◌-◌}
 use native.Mathlib.Omega.{arith}
 use Rattle.quotes.proofs.Inside.{behind_turn, behind_hit, behind_end}
 use Rattle.quotes.proofs.behind.Goals as goal

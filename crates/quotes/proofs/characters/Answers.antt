@@ -1,5 +1,4 @@
 -- `quotes::characters` meets its contract: those before the place are written. Assumes nothing.
-use Prim.Native.Nat.{◌-◌}
 use native.Mathlib.Omega.{arith}
 use Rattle.quotes.proofs.Inside.{half_start, half_over, half_closed, half_room, half_turn}
 use Rattle.quotes.proofs.characters.Goals as goal

@@ -1,5 +1,4 @@
 -- `quotes::count` meets its contract: those counted, with those of the rest, are all. Assumes nothing.
-use Prim.Native.Nat.{◌-◌}
 use native.Mathlib.Omega.{arith}
 use Rattle.quotes.proofs.Inside.{count_turn, count_hit, count_end}
 use Rattle.quotes.proofs.count.Goals as goal

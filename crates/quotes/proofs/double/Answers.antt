@@ -1,6 +1,5 @@
 -- `quotes::double` meets its contract: the characters before i are written. Assumes nothing.
 use mathlib.Core.Path.{refl}
-use Prim.Native.Nat.{◌-◌}
 use native.Mathlib.Omega.{arith}
 use Rattle.quotes.proofs.Doubling.{double_start, double_room, double_turn, double_end, double_long}
 use Rattle.quotes.proofs.double.Goals as goal

@@ -1,6 +1,5 @@
 -- `receiving::take_both` meets its contract: after k turns b is what k turns make of it. Assumes nothing.
 use mathlib.Core.Path.{refl}
-use Prim.Native.Nat.{◌-◌}
 use native.Mathlib.Omega.{arith}
 use Rattle.receiving.proofs.Leaves.{turns, turns_on, turns_taken}
 use Rattle.receiving.proofs.take_both.Goals as goal

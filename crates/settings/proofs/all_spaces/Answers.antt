@@ -1,6 +1,5 @@
 -- `settings::all_spaces` meets its contract: all before i are spaces, so the rest decides. Assumes nothing.
 use mathlib.Core.Path.{refl}
-use Prim.Native.Nat.{◌-◌}
 use native.Mathlib.Omega.{arith}
 use Rattle.settings.proofs.Laws.{spaces_not, spaces_turn, spaces_end}
 use Rattle.settings.proofs.all_spaces.Goals as goal

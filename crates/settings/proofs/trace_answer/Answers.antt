@@ -1,7 +1,6 @@
 -- `settings::trace_answer` meets its contract: no character before i is wrong, so what is left decides. Assumes nothing.
-use Prim.Native.Nat.{◌-◌}
 use native.Mathlib.Omega.{arith}
-use Rattle.settings.proofs.Laws.{left, left_begins, left_below, left_above, left_turn, left_spaces, left_passes}
+use Rattle.settings.proofs.Laws.{left_begins, left_below, left_above, left_turn, left_spaces, left_passes}
 use Rattle.settings.proofs.trace_answer.Goals as goal
 
 pub loop-i-init : goal.loop-i-init

@@ -1,5 +1,4 @@
 -- `split::place` meets its contract: no byte before i is b, so the rest decides. Assumes nothing.
-use Prim.Native.Nat.{◌-◌}
 use native.Mathlib.Omega.{arith}
 use Rattle.split.proofs.Laws.{scan_hit, scan_turn, scan_end}
 use Rattle.split.proofs.place.Goals as goal

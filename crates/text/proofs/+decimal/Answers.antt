@@ -1,5 +1,5 @@
 -- `text::decimal` meets its contract: the digits before the last, and the last. Assumes nothing.
-use Rattle.std.proofs.Common.{rules, arith}
+use Rattle.std.proofs.Common.{arith}
 use Rattle.text.proofs.Pieces.{digit_fits, digit_written, tenth_fits, last_fits, more_written}
 use Rattle.text.proofs.+decimal.Goals as goal
 

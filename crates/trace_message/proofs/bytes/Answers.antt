@@ -1,6 +1,5 @@
 -- `trace_message::bytes` meets its contract: the bytes that are left, after the register so far, give what all give. Assumes nothing.
 use mathlib.Core.Path.{refl}
-use Prim.Native.Nat.{◌-◌}
 use native.Mathlib.Omega.{arith}
 use borrow.Author.Rules.{rules}
 use Rattle.trace_message.proofs.Laws.{bytes_turn, bytes_end}

@@ -1,9 +1,6 @@
 -- `trace_message::same` meets its contract: what is gathered up to i, with what is left, decides. Assumes nothing.
 use mathlib.Core.Path.{refl}
-use Prim.Native.Nat.{◌-◌}
 use native.Mathlib.Omega.{arith}
-use lib.ListN.{length}
-use Rattle.trace_message.specs.Message.{alike}
 use Rattle.trace_message.proofs.Alike.{alike_length}
 use Rattle.trace_message.proofs.Laws.{alike_turn, alike_end}
 use Rattle.trace_message.proofs.same.Goals as goal

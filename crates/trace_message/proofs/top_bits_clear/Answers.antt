@@ -1,6 +1,5 @@
 -- `trace_message::top_bits_clear` meets its contract: no byte before i has its top bit set, and what is left decides. Assumes nothing.
 use mathlib.Core.Path.{refl}
-use Prim.Native.Nat.{◌-◌}
 use native.Mathlib.Omega.{arith}
 use Rattle.trace_message.proofs.Laws.{clear_turn, clear_not, clear_end}
 use Rattle.trace_message.proofs.top_bits_clear.Goals as goal
