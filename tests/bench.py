@@ -13,10 +13,10 @@ as columns. Of both programs each typed line must be answered before the next is
 typed, and output that cannot be written must be said on standard error. The proved bench
 must do with a stack of 1 MiB, and print what docs/BENCH.md shows.
 
-With --try there is no program yet: `rt try` compiles the bench's source in three ways
-(without optimisation, with it, and with the compiler's assumptions checked), and each
-must print what SECOND prints. Nothing is proved for that, so it is quick; many scripts
-are played as one, and one by one where they differ. Nothing is typed at it.
+With --try there is no program yet: `rt try` runs the bench's source compiled with the
+language's checks, and on an interpreter where that ends in its steps; each must print
+what SECOND prints. Nothing is proved for that, so it is quick; many scripts are played
+as one, and one by one where they differ. Nothing is typed at it.
 """
 
 import os
@@ -125,12 +125,13 @@ def compare(name, second, script, proved, expected):
 
 def tried(tree, script, expected, what):
     """What `rt try` says where the bench prints anything but `expected`; none where it prints that."""
-    folder = os.path.join(tree, "crates", "bench")
-    for name, content in (("stdin", script), ("stdout", expected)):
-        with open(os.path.join(folder, name), "wb") as file:
+    cases = os.path.join(tree, "cases")
+    os.makedirs(cases, exist_ok=True)
+    for name, content in (("script", script), ("script.stdout", expected)):
+        with open(os.path.join(cases, name), "wb") as file:
             file.write(content)
     try:
-        done = subprocess.run(["rt", "try", "bench"], cwd=tree, stdout=subprocess.PIPE, stderr=subprocess.STDOUT,
+        done = subprocess.run(["rt", "try", "--cases", cases], cwd=os.path.join(tree, "crates", "bench"), stdout=subprocess.PIPE, stderr=subprocess.STDOUT,
                               timeout=LIMIT, check=False)
     except (subprocess.TimeoutExpired, OSError) as error:
         sys.exit(f"bench.py: {what}: {error}")
@@ -141,7 +142,7 @@ def try_all(second, played):
     """The bench's source against the second program's answers, as many scripts at a time as one may hold."""
     with tempfile.TemporaryDirectory() as tree:
         shutil.copy(os.path.join(ROOT, "crates.txt"), tree)
-        shutil.copytree(os.path.join(ROOT, "crates"), os.path.join(tree, "crates"))
+        shutil.copytree(os.path.join(ROOT, "crates"), os.path.join(tree, "crates"), ignore=shutil.ignore_patterns("out"))
         groups = [[]]
         size = 0
         for name, script, expected in played:

@@ -31,7 +31,7 @@ ENTRY = "## Entry points"  # the section of what a host or a user calls
 COLUMNS = ["Function", "Promise", "Definition", "One outcome", "Rules out"]
 FOR_TESTS = "probe"  # crates whose names begin so
 PROMISES = "promises/proofs/"
-# functions whose contracts the check makes no `Post` of: what the theorem says instead, of the definition that the contract cites
+# functions whose answer has more than one slice in it: what the theorem says instead, of the definition that the contract cites
 EXCEPTIONS = {
     "view::of": "(e : Ended) (size : ℕ) (done unit first second first' second' : List ℕ) "
     "→ Views e size done unit first second → Views e size done unit first' second' → (first ≡ first') × (second ≡ second')",

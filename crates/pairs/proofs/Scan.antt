@@ -17,7 +17,7 @@ use Rattle.pairs.specs.Inner.{visited_of}
 pub between : (i j n : ℕ) → i < j → j < n → i < n
 between i j n h k = omega arith
 
--- ---- oneTrace
+-- ---- one_trace
 
 pub one_trace_lem : (kind : Kind) (s q r x y : List ℕ) (i j : ℕ) (b : Bool) → q ≡ record_at kind s i → x ≡ trace_in q → r ≡ record_at kind s j → y ≡ trace_in r → b ≡ alike x y → b ≡ one_trace kind s i j
 unfolding one_trace

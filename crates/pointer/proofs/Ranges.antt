@@ -80,7 +80,7 @@ wait_le wait state Plain = omega arith
 wait_le wait state (Adjusted a v) = omega arith
 wait_le wait state Invalid = omega arith
 
--- ---- pointerInRange
+-- ---- pointer_in_range
 
 in_placed : (top : ℕ) (s : Pointer) → pointer_in_range top s ≡ true → placed top s.state ≡ true
 unfolding pointer_in_range

@@ -33,7 +33,7 @@ Names top state (Adjusted a v) = Moved top a state v
 Names top state Plain = Unit {0}
 Names top state Invalid = Unit {0}
 
--- ---- good, runAfter
+-- ---- good, run_after
 
 pub good_low : (k top w : ℕ) → good k top w ≡ true → value_of w ≤ top
 unfolding good
@@ -47,7 +47,7 @@ run_low run top w =
     (λ g _. good_low normal top w g)
     (λ _ e. absurd (omega (arith, leb-true 3 0 e)))
 
--- ---- takenAs
+-- ---- taken_as
 
 module _ (top : ℕ) where
   adjustment_names : (at i d : ℕ) → Names top (Normal at) (adjustment top at i d)

@@ -60,7 +60,7 @@ shifted_xor r s a b hr hs ha hb =
     ∙ reduced_xor (r * 2 + a) (s * 2 + b)
     ∙ sym (ap₂ bit_xor (shifted_reduced r a hr ha) (shifted_reduced s b hs hb))
 
--- ---- bitsIn
+-- ---- bits_in
 
 bits_xor : (n r s b c : ℕ) → r < 128 → s < 128 → bits_in n (bit_xor r s) (bit_xor b c) ≡ bit_xor (bits_in n r b) (bits_in n s c)
 unfolding bits_in

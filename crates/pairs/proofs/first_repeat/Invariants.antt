@@ -8,7 +8,7 @@ use Rattle.pairs.proofs.first_repeat.Given as goal
 
 -- a later record has fewer than 512 before it: so the count is far from its type's end
 abbrev pub invariant-loop-i : goal.invariant-loop-i
-invariant-loop-i l =     (l.i ≤ l.j) × ((l.j < l.n) × ((l.pairs ≤ most_records * l.j + l.i) × (Left l.kind l.s l.pairs (pairs_with l.j l.i (l.j - l.i) ++ pairs_from (l.j + 1) (l.n - (l.j + 1))) (visit l.kind l.s (pairs_from 0 l.n)))))
+invariant-loop-i l = (l.i ≤ l.j) × ((l.j < l.n) × ((l.pairs ≤ most_records * l.j + l.i) × (Left l.kind l.s l.pairs (pairs_with l.j l.i (l.j - l.i) ++ pairs_from (l.j + 1) (l.n - (l.j + 1))) (visit l.kind l.s (pairs_from 0 l.n)))))
 
 abbrev pub decreases-loop-i : goal.decreases-loop-i
 decreases-loop-i l = l.j - l.i
