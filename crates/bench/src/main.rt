@@ -483,9 +483,10 @@ struct Desk {
     over: bool,
 }
 
+// A pipe whose reader has gone is no fault to speak of.
 fn is_failed<P: Print>(out: &Output<P>, errors: &impl Print) -> bool {
     let failed = bench_say::failed(out);
-    if failed {
+    if failed & !bench_say::gone(out) {
         bench_say::complain(errors, b"bench: standard output cannot be written\n");
     }
     failed

@@ -2,24 +2,40 @@
 // A piece that standard output does not take is lost; `failed` says that there was one.
 #![tactic(auto)]
 
-// Where the bench prints: standard output, and whether it has not taken a piece so far.
+use std::io;
+use std::io::ErrorKind;
+
+// Where the bench prints: standard output, whether it has not taken a piece so far, and whether that was because its reader has gone.
 #[derive(Drop)]
 pub struct Output<P> {
     to: P,
     failed: bool,
+    gone: bool,
 }
 
 impl<P: Print> Output<P> {
     pub fn new(to: P) -> Output<P> {
-        Output { to, failed: false }
+        Output {
+            to,
+            failed: false,
+            gone: false,
+        }
+    }
+}
+
+// What came of a piece. The first that is not taken says why.
+fn note<P: Print>(out: &mut Output<P>, taken: io::Result<()>) {
+    if let Err(e) = taken {
+        if !out.failed {
+            out.failed = true;
+            out.gone = e.kind() == ErrorKind::BrokenPipe;
+        }
     }
 }
 
 pub fn text<P: Print>(out: &mut Output<P>, s: &[u8]) {
-    let taken = out.to.write_all(s).is_ok();
-    if !taken {
-        out.failed = true;
-    }
+    let taken = out.to.write_all(s);
+    note(out, taken);
 }
 
 // What is wrong with the bench's own input or output, or with how it was started. Where standard error does not take it, it is lost.
@@ -32,11 +48,14 @@ pub fn failed<P: Print>(out: &Output<P>) -> bool {
     out.failed
 }
 
+// Whether it was not taken because standard output is a pipe whose reader has gone.
+pub fn gone<P: Print>(out: &Output<P>) -> bool {
+    out.gone
+}
+
 pub fn decimal<P: Print>(out: &mut Output<P>, n: u64) {
-    let taken = out.to.print(n).is_ok();
-    if !taken {
-        out.failed = true;
-    }
+    let taken = out.to.print(n);
+    note(out, taken);
 }
 
 pub fn bit<P: Print>(out: &mut Output<P>, b: bool) {

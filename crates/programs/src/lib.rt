@@ -6,7 +6,7 @@ ghost use Rattle.std.specs.Prelude.{◌≤◌, length};
 
 use records::PlaceList;
 use std::env::{Env, FillError};
-use std::io::Read;
+use std::io::{ErrorKind, Read};
 
 // Whether the program was started with an argument.
 pub fn has_argument(rt: &impl Env) -> bool {
@@ -53,9 +53,13 @@ pub fn cannot_read(errors: &impl Print, name: &[u8]) {
     say(errors, name, b": standard input cannot be read\n");
 }
 
+// A pipe whose reader has gone is no fault to speak of.
 pub fn print(out: &impl Print, errors: &impl Print, name: &[u8], s: &[u8]) {
-    if out.write_all(s).is_err() {
-        say(errors, name, b": standard output cannot be written\n");
+    match out.write_all(s) {
+        Err(e) if e.kind() != ErrorKind::BrokenPipe => {
+            say(errors, name, b": standard output cannot be written\n")
+        }
+        _ => {}
     }
 }
 

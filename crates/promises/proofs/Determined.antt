@@ -39,7 +39,7 @@ use Rattle.settings.proofs.flags_of.Kinds as settings-flags-of
 use Rattle.settings.proofs.flags_of.Reads as settings-flags-of-promise
 use Rattle.settings.proofs.path_answer.Kinds as settings-path-answer
 use Rattle.settings.proofs.path_answer.Reads as settings-path-answer-promise
-use Rattle.settings.proofs.answer.Kinds as settings_answer_lem
+use Rattle.settings.proofs.answer.Kinds as settings-answer
 use Rattle.settings.proofs.answer.Reads as settings-answer-promise
 use Rattle.settings.proofs.answer_alone.Kinds as settings-answer-alone
 use Rattle.settings.proofs.answer_alone.Reads as settings-answer-alone-promise
@@ -214,7 +214,7 @@ settings_flags_of_determined κs a x y s t p q = p ∙ sym q
 pub settings_path_answer_determined : Determines {O = Answer} 1 settings-path-answer.ps settings-path-answer.r settings-path-answer-promise.Post (λ κs r e. r)
 settings_path_answer_determined κs a x y s t p q = p ∙ sym q
 
-pub settings_answer_determined : Determines {O = Answer} 0 settings_answer_lem.ps settings_answer_lem.r settings-answer-promise.Post (λ κs r e. r)
+pub settings_answer_determined : Determines {O = Answer} 0 settings-answer.ps settings-answer.r settings-answer-promise.Post (λ κs r e. r)
 settings_answer_determined κs a x y s t p q = p ∙ sym q
 
 pub settings_answer_alone_determined : Determines {O = Answer} 1 settings-answer-alone.ps settings-answer-alone.r settings-answer-alone-promise.Post (λ κs r e. r)
