@@ -3,7 +3,7 @@
 #![tactic(auto)]
 
 ghost use Rattle.std.specs.Prelude.{◌≡◌, ◌++◌, ◌+◌, ◌≤◌, length, drop};
-ghost use Rattle.shape.specs.Shape.{Fit, unit_length};
+ghost use Rattle.shape.specs.Shape.{unit_length};
 ghost use Rattle.cut.specs.Cut.{next_of, begin_of, cut_of, done_of};
 ghost use Rattle.cut.specs.Inner.{Line, Sizes, Cuts};
 
@@ -41,7 +41,7 @@ fn next_place(shape: Shape, kept: usize, from: usize) -> usize
 
 // The place from which the unit's bytes are held.
 fn begin_place(shape: Shape, next: usize) -> usize
-    requires { (Fit shape) × (next ≤ unit_length shape) }
+    requires { next ≤ unit_length shape }
     ensures { result ≡ begin_of shape next }
 {
     if next <= 3 * shape.step {
@@ -64,7 +64,7 @@ fn places(shape: Shape, kept: usize, from: usize) -> Cut
         next,
         inside: next <= 3 * shape.step,
         begin,
-        rest: 3 * shape.step + shape.size - begin,
+        rest: shape.unit_length() - begin,
     }
 }
 

@@ -58,11 +58,11 @@ fn adjust(top: u16, offset: u16, i: u32, d: u32) -> Taken
     ensures { result ≡ adjustment top offset i d }
 {
     if (3 <= i) & (d <= 2) {
-        let up = shape::offset_after(top, Adjustment::Increment, offset);
+        let up = Adjustment::Increment.offset_after(top, offset);
         return Taken::Adjusted(Adjustment::Increment, up);
     }
     if (3 <= d) & (i <= 2) {
-        let down = shape::offset_after(top, Adjustment::Decrement, offset);
+        let down = Adjustment::Decrement.offset_after(top, offset);
         return Taken::Adjusted(Adjustment::Decrement, down);
     }
     Taken::Invalid

@@ -1,5 +1,4 @@
 pub mod Offsets
 pub mod Balance
 pub mod Examples
-pub mod Cases
 pub mod Opened

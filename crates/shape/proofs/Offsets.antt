@@ -12,28 +12,25 @@ use Rattle.shape.specs.declared.Adjustment.{Adjustment}
 use Rattle.shape.specs.declared.Adjustment.TheVariants.{Nothing, Increment, Decrement}
 
 pub au4_fit : Fit au4
-au4_fit = record { some = omega arith; fills = refl; nine = refl; two = omega arith; ten = omega arith; low = omega arith }
+au4_fit = au4.fits
 
 pub tu3_fit : Fit tu3
-tu3_fit = record { some = omega arith; fills = refl; nine = refl; two = omega arith; ten = omega arith; low = omega arith }
-
-pub au4_fits : (s : Shape) → s ≡ au4 → Fit s
-au4_fits s e = rw e au4_fit
+tu3_fit = tu3.fits
 
 -- ---- places
 
 -- a value in range has its place a step or more before the container's end
-pub place_low : (s : Shape) (v : ℕ) → Fit s → v ≤ s.top → place_of s v + s.step ≤ s.size
-place_low s v f h =
+pub place_low : (s : Shape) (v : ℕ) → v ≤ s.top → place_of s v + s.step ≤ s.size
+place_low s v h =
     let m : s.step * (v + 1) ≤ s.step * (s.top + 1) = mul-le-mul_left s.step (omega arith) in
-    omega (arith, f.fills)
+    omega (arith, s.fits.fills)
 
 -- there is more than one value
-pub top_some : (s : Shape) → Fit s → 0 < s.top
-top_some s f = go s.top f.fills
+pub top_some : (s : Shape) → 0 < s.top
+top_some s = go s.top s.fits.fills
   where
     go : (t : ℕ) → s.size ≡ s.step * (t + 1) → 0 < t
-    go zero e = absurd (omega (arith, f.two, f.some, mul-one s.step, e))
+    go zero e = absurd (omega (arith, s.fits.two, s.fits.some, mul-one s.step, e))
     go (suc t) e = omega arith
 
 -- ---- the bytes of the container under way
@@ -47,9 +44,9 @@ unfolding held_count
 held_some s v = simp (ne_eqb (suc v) 0 (λ e. omega arith))
 
 -- at least a step of the container is still to come
-pub held_low : (s : Shape) (v : ℕ) → Fit s → held_count s v + s.step ≤ s.size
-held_low s zero f = omega (arith, held_none s, f.two)
-held_low s (suc v) f = omega (arith, held_some s v, mul-suc s.step v, f.two)
+pub held_low : (s : Shape) (v : ℕ) → held_count s v + s.step ≤ s.size
+held_low s zero = omega (arith, held_none s, s.fits.two)
+held_low s (suc v) = omega (arith, held_some s v, mul-suc s.step v, s.fits.two)
 
 -- ---- adjustments
 

@@ -2,8 +2,8 @@
 // The definitions stand in specs/Shape.antt; proofs/Balance.antt has the law that every count of containers follows from. The sources and the sink rest on this crate.
 #![tactic(auto)]
 
-ghost use Rattle.std.specs.Prelude.{◌≡◌, cond, ◌≤◌};
-ghost use Rattle.shape.specs.Shape.{au4, Fit, place_of, held_count, up_of, down_of, offset_after, run_from, ended_by};
+ghost use Rattle.std.specs.Prelude.{◌≡◌, ◌-◌, ◌*◌, ◌≤◌};
+ghost use Rattle.shape.specs.Fits.{Fits};
 
 // A unit is a header of three groups of `step` bytes, then `size` bytes; its pointer's values run from 0 to `top`. A container is nine rows of `columns` bytes.
 #[derive(Clone, Copy)]
@@ -12,98 +12,104 @@ pub struct Shape {
     pub size: usize,
     pub top: u16,
     pub columns: usize,
+    pub ghost fits: { Fits step size top columns },
 }
 
 // What a unit does to the offset: what a source is asked for, and what a sink reads in the word.
-#[derive(Clone, Copy)]
+#[derive(Clone, Copy, PartialEq, Eq)]
 pub enum Adjustment {
     Nothing,
     Increment,
     Decrement,
 }
 
-// AU-4 with its VC-4.
-pub fn au4_shape() -> Shape
-    ensures { result ≡ au4 }
-{
-    Shape {
-        step: 3,
-        size: 2349,
-        top: 782,
-        columns: 261,
+impl Shape {
+    ghost use Rattle.shape.specs.Shape.{au4, unit_length, place_of, held_count, run_from};
+
+    // AU-4 with its VC-4.
+    pub fn au4() -> Shape
+        ensures { result ≡ au4 }
+    {
+        Shape {
+            step: 3,
+            size: 2349,
+            top: 782,
+            columns: 261,
+        }
+    }
+
+    // The bytes of a unit.
+    pub fn unit_length(self) -> usize
+        ensures { result ≡ unit_length self }
+    {
+        3 * self.step + self.size
+    }
+
+    // The bytes of a container's payload: its nine rows without their first column.
+    pub fn payload_length(self) -> usize
+        ensures { result ≡ 9 * (self.columns - 1) }
+    {
+        9 * (self.columns - 1)
+    }
+
+    // The place of J1 at an offset, counted from byte offset 0.
+    #[tactic(auto, using(crate::proofs::Offsets::place_low))]
+    pub fn place(self, offset: u16) -> usize
+        requires { offset ≤ self.top }
+        ensures { (result ≡ place_of self offset) × (result ≤ self.size) }
+    {
+        self.step * (offset as usize)
+    }
+
+    // The bytes of the container under way at an offset: sent before the unit by a source, held by a sink.
+    #[tactic(auto, unfolding(crate::specs::Shape::held_count))]
+    pub fn held_count(self, offset: u16) -> usize
+        requires { offset ≤ self.top }
+        ensures { result ≡ held_count self offset }
+    {
+        if offset == 0 {
+            return 0;
+        }
+        self.size - self.place(offset)
+    }
+
+    // The place in the unit from which it carries container bytes, counted from H1.
+    #[tactic(auto, unfolding(crate::specs::Shape::run_from))]
+    pub fn run_from(self, a: Adjustment) -> usize
+        ensures { result ≡ run_from self.step a }
+    {
+        match a {
+            Adjustment::Nothing => 3 * self.step,
+            Adjustment::Increment => 4 * self.step,
+            Adjustment::Decrement => 2 * self.step,
+        }
     }
 }
 
-// The place of J1 at an offset, counted from byte offset 0.
-pub fn place(shape: Shape, offset: u16) -> usize
-    requires { (Fit shape) × (offset ≤ shape.top) }
-    ensures { (result ≡ place_of shape offset) × (result ≤ shape.size) }
-{
-    shape.step * (offset as usize)
-}
+impl Adjustment {
+    ghost use Rattle.shape.specs.Shape.{offset_after, ended_by};
 
-// The bytes of the container under way at an offset: sent before the unit by a source, held by a sink.
-pub fn held_count(shape: Shape, offset: u16) -> usize
-    requires { (Fit shape) × (offset ≤ shape.top) }
-    ensures { result ≡ held_count shape offset }
-{
-    if offset == 0 {
-        return 0;
+    // The offset in the unit of an adjustment, and after it: one up, and from the top to 0; one down, and from 0 to the top.
+    #[tactic(auto, unfolding(crate::specs::Shape::offset_after, crate::specs::Shape::up_of, crate::specs::Shape::down_of))]
+    pub fn offset_after(self, top: u16, offset: u16) -> u16
+        ensures { result ≡ offset_after top self offset }
+    {
+        match self {
+            Adjustment::Nothing => offset,
+            Adjustment::Increment => if offset < top { offset + 1 } else { 0 },
+            Adjustment::Decrement => if offset == 0 { top } else { offset - 1 },
+        }
     }
-    shape.size - place(shape, offset)
-}
 
-// One up, and from the top to 0.
-fn up(top: u16, offset: u16) -> u16
-    ensures { result ≡ up_of top offset }
-{
-    if offset < top { offset + 1 } else { 0 }
-}
-
-// One down, and from 0 to the top.
-fn down(top: u16, offset: u16) -> u16
-    ensures { result ≡ down_of top offset }
-{
-    if offset == 0 { top } else { offset - 1 }
-}
-
-// The offset in the unit of an adjustment, and after it.
-pub fn offset_after(top: u16, a: Adjustment, offset: u16) -> u16
-    ensures { result ≡ offset_after top a offset }
-{
-    match a {
-        Adjustment::Nothing => offset,
-        Adjustment::Increment => up(top, offset),
-        Adjustment::Decrement => down(top, offset),
-    }
-}
-
-// The place in the unit from which it carries container bytes, counted from H1.
-pub fn run_from(shape: Shape, a: Adjustment) -> usize
-    requires { Fit shape }
-    ensures { result ≡ run_from shape.step a }
-{
-    match a {
-        Adjustment::Nothing => 3 * shape.step,
-        Adjustment::Increment => 4 * shape.step,
-        Adjustment::Decrement => 2 * shape.step,
-    }
-}
-
-// One number or the other. (An `if` in an arm of a `match` would meet the other arms.)
-fn pick(test: bool, yes: u8, no: u8) -> u8
-    ensures { result ≡ cond test yes no }
-{
-    if test { yes } else { no }
-}
-
-// How many containers end in the unit, by the offset before it.
-pub fn ended_by(a: Adjustment, offset: u16) -> u8
-    ensures { result ≡ ended_by a offset }
-{
-    match a {
-        Adjustment::Nothing => 1,
-        Adjustment::Increment => pick(offset == 0, 0, 1),
-        Adjustment::Decrement => pick(offset == 1, 2, 1),
+    // How many containers end in the unit, by the offset before it.
+    #[tactic(auto, unfolding(crate::specs::Shape::ended_by))]
+    pub fn ended_by(self, offset: u16) -> u8
+        ensures { result ≡ ended_by self offset }
+    {
+        match self {
+            Adjustment::Nothing => 1,
+            Adjustment::Increment => if offset == 0 { 0 } else { 1 },
+            Adjustment::Decrement => if offset == 1 { 2 } else { 1 },
+        }
     }
 }

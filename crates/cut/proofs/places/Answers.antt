@@ -7,7 +7,7 @@ pub begin_place-begin-requires : goal.begin_place-begin-requires
 begin_place-begin-requires c = search (next_within, rules)
 
 pub overflow_sub-result : goal.overflow_sub-result
-overflow_sub-result c = search begin_within
+overflow_sub-result c = rw c.unit_length.ensures (search begin_within)
 
 pub returns : goal.returns
-returns c = search places_are
+returns c = rw c.unit_length.ensures (search places_are)
