@@ -3,7 +3,7 @@
 #![tactic(auto)]
 
 ghost use Rattle.std.specs.Prelude.{◌≡◌, ◌+◌, ◌*◌, length};
-ghost use Rattle.shape.specs.Shape.{au4, Fit};
+ghost use Rattle.shape.specs.Shape.{au4};
 ghost use Rattle.refusals.specs.Refusals.{answer_of};
 ghost use Rattle.container.specs.Container.{rows_of, strip_of};
 ghost use Rattle.container.specs.Payload.{payload_faults, HandsAs, Hands};
@@ -52,7 +52,6 @@ fn strip(width: usize, container: &[u8], payload: &mut [u8])
 
 // The answer to a payload call, by the lengths of what it is lent.
 fn payload_answer(shape: Shape, container: usize, payload: usize) -> Answer
-    requires { Fit shape }
     ensures { result ≡ answer_of (payload_faults shape container payload) }
 {
     let full = 9 * (shape.columns - 1);
@@ -67,7 +66,6 @@ fn payload_answer(shape: Shape, container: usize, payload: usize) -> Answer
 
 // The payload of a container of any shape, all ones in its place where `ais` asks for it.
 fn hand(shape: Shape, container: &[u8], ais: bool, payload: &mut [u8]) -> Answer
-    requires { Fit shape }
     ensures { HandsAs shape container.now ais payload.old result payload.new }
 {
     match payload_answer(shape, container.len(), payload.len()) {
@@ -88,5 +86,5 @@ fn hand(shape: Shape, container: &[u8], ais: bool, payload: &mut [u8]) -> Answer
 pub fn payload_call(container: &[u8], ais: bool, payload: &mut [u8]) -> Answer
     ensures { Hands au4 container.now ais payload.old result payload.new }
 {
-    hand(shape::au4_shape(), container, ais, payload)
+    hand(Shape::au4(), container, ais, payload)
 }

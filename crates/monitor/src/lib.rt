@@ -46,19 +46,16 @@ pub struct Seen {
 }
 
 // What the monitor looks at in a container of nine rows.
+#[tactic(auto, using(crate::proofs::Places::seen_read))]
 pub fn see(columns: usize, container: &[u8]) -> Overhead
     requires { (0 < columns) × (3 * columns < length container.now) }
     ensures { result ≡ seen_in columns container.now }
 {
-    let j1 = container[0];
-    let b3 = container[columns];
-    let c2 = container[2 * columns];
-    let g1 = container[3 * columns];
     Overhead {
-        j1: j1,
-        b3: b3,
-        c2: c2,
-        g1: g1,
+        j1: container[0],
+        b3: container[columns],
+        c2: container[2 * columns],
+        g1: container[3 * columns],
         parity: parity::parity(container),
     }
 }
@@ -74,43 +71,45 @@ fn no_parity() -> overhead::Parity
 }
 
 // The monitor without its last parity.
+#[tactic(auto, unfolding(crate::specs::Monitoring::forgot))]
 pub fn forget(m: Monitor) -> Monitor
     ensures { result ≡ forgot m }
 {
-    let mut n = m;
-    n.parity = no_parity();
-    n
+    Monitor {
+        parity: no_parity(),
+        ..m
+    }
 }
 
 // All cleared, with the count of containers without a message given: 0 for the fresh monitor, 48 for a unit with SSF.
+#[tactic(auto, unfolding(crate::specs::Monitoring::blank_of))]
 pub fn blank(without: u8) -> Monitor
     ensures { result ≡ blank_of without }
 {
-    let label = overhead::Accepted {
-        last: 0,
-        run: 0,
-        known: false,
-        value: 0,
-    };
     let none = overhead::Defect {
         with: 0,
         without: 0,
         stands: false,
     };
-    let watch = Watch {
-        label,
-        plm: false,
-        uneq: none,
-        rdi: none,
-        trace: trace_monitor::blank(without),
-    };
     Monitor {
         parity: no_parity(),
-        watch,
+        watch: Watch {
+            label: overhead::Accepted {
+                last: 0,
+                run: 0,
+                known: false,
+                value: 0,
+            },
+            plm: false,
+            uneq: none,
+            rdi: none,
+            trace: trace_monitor::blank(without),
+        },
     }
 }
 
 // Whether each count is in its range.
+#[tactic(auto, unfolding(crate::specs::Monitoring::watch_in_range))]
 pub fn in_range(m: Monitor) -> bool
     ensures { result ≡ monitor_in_range m }
 {
@@ -125,42 +124,34 @@ pub fn in_range(m: Monitor) -> bool
 }
 
 // What is watched, with one more container.
+#[tactic(auto, unfolding(crate::specs::Monitoring::watch_step))]
 fn watch_step(w: Watch, c: Overhead, e: Settings) -> Watch
     ensures { result ≡ watch_step w c e }
 {
-    let before = w.label;
-    let uneq = w.uneq;
-    let rdi = w.rdi;
-    let trace = w.trace;
-    let expected = e.trace;
-    let label = overhead::accept_step(before, c.c2);
+    let label = overhead::accept_step(w.label, c.c2);
     Watch {
         label,
         plm: overhead::mismatch(label, e.label),
-        uneq: overhead::defect_step(uneq, c.c2 == 0),
-        rdi: overhead::defect_step(rdi, overhead::remote(c.g1)),
-        trace: trace_monitor::trace_step(trace, c.j1, expected),
+        uneq: overhead::defect_step(w.uneq, c.c2 == 0),
+        rdi: overhead::defect_step(w.rdi, overhead::remote(c.g1)),
+        trace: trace_monitor::trace_step(w.trace, c.j1, e.trace),
     }
 }
 
 // One more container.
+#[tactic(auto, unfolding(crate::specs::Monitoring::seen_of, crate::specs::Monitoring::monitor_step, overhead::specs::Violations::kept_of))]
 pub fn step(m: Monitor, c: Overhead, e: Settings) -> Seen
     ensures { result ≡ seen_of m c e }
 {
-    let last = m.parity;
-    let before = m.watch;
-    let violated = overhead::violated(last, c.b3);
-    let parity = overhead::Parity {
-        known: true,
-        value: c.parity,
-    };
-    let monitor = Monitor {
-        parity,
-        watch: watch_step(before, c, e),
-    };
     Seen {
-        monitor,
-        violated,
+        monitor: Monitor {
+            parity: overhead::Parity {
+                known: true,
+                value: c.parity,
+            },
+            watch: watch_step(m.watch, c, e),
+        },
+        violated: overhead::violated(m.parity, c.b3),
         returned: overhead::returned(c.g1),
     }
 }

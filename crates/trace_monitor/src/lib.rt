@@ -3,7 +3,6 @@
 #![tactic(auto)]
 
 ghost use Rattle.std.specs.Prelude.{◌≡◌};
-ghost use Rattle.trace_message.specs.Message.{alike};
 ghost use Rattle.trace_monitor.specs.Trace.{gathered_of, ends_good, spoils, with_good, without_good, trace_of, blank_trace};
 
 // The message that is being gathered: the place of its next byte, 0 outside any, its start byte, and its characters as far as they have come.
@@ -29,112 +28,109 @@ pub struct Trace {
 }
 
 // The byte is put at its place of the message.
+#[tactic(auto, unfolding(crate::specs::Trace::gathered_of))]
 fn gather(g: Gathered, j1: u8) -> Gathered
     ensures { result ≡ gathered_of g j1 }
 {
-    let place = g.place;
-    let mut n = g;
     if 0x80 <= j1 {
-        n.place = 1;
-        n.start = j1;
-        return n;
+        return Gathered {
+            place: 1,
+            start: j1,
+            ..g
+        };
     }
-    if place == 0 {
-        return n;
+    if g.place == 0 {
+        return g;
     }
-    if place < 15 {
-        let k = (place - 1) as usize;
-        n.chars[k] = j1;
-        n.place = place + 1;
-        return n;
+    let mut chars = g.chars;
+    if g.place < 15 {
+        chars[(g.place - 1) as usize] = j1;
+        return Gathered {
+            place: g.place + 1,
+            chars,
+            ..g
+        };
     }
-    n.chars[14] = j1;
-    n.place = 0;
-    n
+    chars[14] = j1;
+    Gathered {
+        place: 0,
+        chars,
+        ..g
+    }
 }
 
 // Whether the byte ended a good message, g being what is gathered with it. The check is worked out at the last byte only.
+#[tactic(auto, unfolding(crate::specs::Trace::ends_good))]
 fn ends_good(place: u8, j1: u8, g: Gathered) -> bool
     ensures { result ≡ ends_good place j1 g }
 {
-    if 0x80 <= j1 {
-        return false;
-    }
-    if place < 15 {
-        return false;
-    }
-    let chars = g.chars;
-    trace_message::good_message(g.start, &chars)
+    j1 < 0x80 && 15 <= place && trace_message::good_message(g.start, &g.chars)
 }
 
 // Whether a byte that ended no good message cuts one, ends a wrong one, or stands outside any.
+#[tactic(auto, unfolding(crate::specs::Trace::spoils))]
 fn is_spoilt(place: u8, j1: u8) -> bool
     ensures { result ≡ spoils place j1 }
 {
     if 0x80 <= j1 {
-        return 0 < place;
+        0 < place
+    } else {
+        place == 0 || 15 <= place
     }
-    if place == 0 {
-        return true;
-    }
-    15 <= place
-}
-
-// Whether the characters of two messages are the same.
-fn same(x: [u8; 15], y: [u8; 15]) -> bool
-    ensures { result ≡ alike x y }
-{
-    trace_message::same(&x, &y)
 }
 
 // A container with a good message.
+#[tactic(auto, unfolding(crate::specs::Trace::with_good))]
 fn with_good(t: Trace, g: Gathered, expected: [u8; 15]) -> Trace
     ensures { result ≡ with_good t g expected }
 {
-    let chars = g.chars;
-    let last = t.last;
-    let run = counts::run_on(same(chars, last), t.run, 3);
-    let mut n = t;
-    n.gathered = g;
-    n.last = chars;
-    n.run = run;
-    n.without = 0;
+    let run = counts::run_on(trace_message::same(&g.chars, &t.last), t.run, 3);
+    let n = Trace {
+        gathered: g,
+        last: g.chars,
+        run,
+        without: 0,
+        ..t
+    };
     if 3 <= run {
-        n.known = true;
-        n.accepted = chars;
-        n.tim = !same(chars, expected);
-        return n;
+        return Trace {
+            known: true,
+            accepted: g.chars,
+            tim: !trace_message::same(&g.chars, &expected),
+            ..n
+        };
     }
     n
 }
 
 // A container without one.
+#[tactic(auto, unfolding(crate::specs::Trace::without_good))]
 fn without_good(t: Trace, g: Gathered, spoilt: bool) -> Trace
     ensures { result ≡ without_good t g spoilt }
 {
     let count = counts::one_more(t.without, 48);
-    let mut n = t;
-    n.gathered = g;
-    n.without = count;
+    let n = Trace {
+        gathered: g,
+        without: count,
+        ..t
+    };
     if 48 <= count {
-        n.run = 0;
-        n.tim = true;
-        return n;
+        return Trace {
+            run: 0,
+            tim: true,
+            ..n
+        };
     }
-    if spoilt {
-        n.run = 0;
-        return n;
-    }
-    n
+    if spoilt { Trace { run: 0, ..n } } else { n }
 }
 
 // The trace after one more container.
+#[tactic(auto, unfolding(crate::specs::Trace::trace_of))]
 pub fn trace_step(t: Trace, j1: u8, expected: [u8; 15]) -> Trace
     ensures { result ≡ trace_of t j1 expected }
 {
-    let old = t.gathered;
-    let place = old.place;
-    let g = gather(old, j1);
+    let place = t.gathered.place;
+    let g = gather(t.gathered, j1);
     if ends_good(place, j1, g) {
         return with_good(t, g, expected);
     }
@@ -142,21 +138,21 @@ pub fn trace_step(t: Trace, j1: u8, expected: [u8; 15]) -> Trace
 }
 
 // Nothing gathered and nothing accepted, with the count given: 0 where nothing was received yet, 48 after a clearing.
+#[tactic(auto, unfolding(crate::specs::Trace::blank_trace))]
 pub fn blank(without: u8) -> Trace
     ensures { result ≡ blank_trace without }
 {
-    let gathered = Gathered {
-        place: 0,
-        start: 0,
-        chars: [0; 15],
-    };
     Trace {
-        gathered: gathered,
+        gathered: Gathered {
+            place: 0,
+            start: 0,
+            chars: [0; 15],
+        },
         last: [0; 15],
         run: 0,
         known: false,
         accepted: [0; 15],
-        without: without,
+        without,
         tim: false,
     }
 }
