@@ -3,7 +3,7 @@
 #![tactic(auto)]
 
 ghost use Rattle.std.specs.Prelude.{◌≡◌, ◌<◌, length};
-ghost use Rattle.shape.specs.Shape.{au4, Fit};
+ghost use Rattle.shape.specs.Shape.{au4};
 ghost use Rattle.refusals.specs.Refusals.{answer_of};
 ghost use Rattle.sink.specs.Sink.{fresh_sink, sink_out_of_range, sink_faults, pointed, told, refusing, ReceivesAs, Receives};
 ghost use Rattle.sink.specs.Inner.{Pointed, UnitOutcomeIs};
@@ -11,7 +11,7 @@ ghost use Rattle.sink.specs.Inner.{Pointed, UnitOutcomeIs};
 use monitor::Monitor;
 use pointer::{AfterWord, Pointer};
 use receiving::{AfterUnit, Ended};
-use refusals::{Answer, Refusal};
+use refusals::Refusal;
 use settings::Settings;
 use shape::Shape;
 use unit_end::{Actions, Causes, Defects};
@@ -29,7 +29,7 @@ pub struct State {
 // refused the state is the old one, and nothing is told of a unit.
 #[derive(Clone, Copy)]
 pub struct Received {
-    pub answer: Answer,
+    pub answer: Result<(), Refusal>,
     pub state: State,
     pub ended: Ended,
     pub actions: Actions,
@@ -51,7 +51,6 @@ pub fn fresh() -> State
 }
 
 fn out_of_range(shape: Shape, s: State) -> bool
-    requires { Fit shape }
     ensures { result ≡ sink_out_of_range shape s }
 {
     let p = s.pointer;
@@ -63,31 +62,32 @@ fn out_of_range(shape: Shape, s: State) -> bool
         return true;
     }
     let state = p.state;
-    let count = shape::held_count(shape, pointer_state::offset(state));
+    let count = shape.held_count(pointer_state::offset(state));
     s.held != count
 }
 
 // The answer to a call, by its state and settings, and the lengths of what it is lent.
-fn answer(shape: Shape, s: State, e: Settings, unit: usize, held: usize, done: usize) -> Answer
-    requires { Fit shape }
+fn answer(
+    shape: Shape,
+    s: State,
+    e: Settings,
+    unit: usize,
+    held: usize,
+    done: usize,
+) -> Result<(), Refusal>
     ensures { result ≡ answer_of (sink_faults shape s e unit held done) }
 {
     if out_of_range(shape, s) {
-        return Answer::Refused(Refusal::State);
+        return Err(Refusal::State);
     }
-    match settings::answer(e) {
-        Answer::Refused(x) => {
-            return Answer::Refused(x);
-        }
-        Answer::Done => {}
-    }
-    if unit != 3 * shape.step + shape.size {
-        return Answer::Refused(Refusal::Unit);
+    settings::answer(e)?;
+    if unit != shape.unit_length() {
+        return Err(Refusal::Unit);
     }
     if (held != shape.size) | (done != shape.size) {
-        return Answer::Refused(Refusal::Container);
+        return Err(Refusal::Container);
     }
-    Answer::Done
+    Ok(())
 }
 
 // The unit's word, read: how it is taken, and the pointer after it.
@@ -152,7 +152,7 @@ fn tell(p: Pointer, total: u16, u: AfterUnit, e: Settings) -> Received
         total: unit_end::total_after(total, settled),
     };
     Received {
-        answer: Answer::Done,
+        answer: Ok(()),
         state: s,
         ended,
         actions: unit_end::actions_of(!normal, defects),
@@ -171,7 +171,7 @@ fn refuse(s: State, x: Refusal) -> Received
     let m = none.monitor;
     let defects = unit_end::defects_of(m);
     Received {
-        answer: Answer::Refused(x),
+        answer: Err(x),
         state: s,
         ended,
         actions: unit_end::actions_of(false, defects),
@@ -190,14 +190,13 @@ fn feed(
     held: &mut [u8],
     done: &mut [u8],
 ) -> Received
-    requires { Fit shape }
     ensures { ReceivesAs shape s e unit.now held.old done.old result held.new done.new }
 {
     match answer(shape, s, e, unit.len(), held.len(), done.len()) {
-        Answer::Refused(x) => {
+        Err(x) => {
             return refuse(s, x);
         }
-        Answer::Done => {}
+        Ok(()) => {}
     }
     let before = s.pointer;
     let a = point(shape, before, unit);
@@ -210,5 +209,5 @@ fn feed(
 pub fn sink(s: State, e: Settings, unit: &[u8], held: &mut [u8], done: &mut [u8]) -> Received
     ensures { Receives au4 s e unit.now held.old done.old result held.new done.new }
 {
-    feed(shape::au4_shape(), s, e, unit, held, done)
+    feed(Shape::au4(), s, e, unit, held, done)
 }

@@ -3,12 +3,12 @@
 #![tactic(auto)]
 
 ghost use Rattle.std.specs.Prelude.{◌≡◌, length};
-ghost use Rattle.shape.specs.Shape.{au4, Fit};
+ghost use Rattle.shape.specs.Shape.{au4};
 ghost use Rattle.refusals.specs.Refusals.{answer_of};
 ghost use Rattle.unit_source.specs.Source.{fresh_unit_source, adjusts, source_out_of_range, make_faults, word_sent, unit_sent, source_wait_after, MakesAs, Makes};
 ghost use Rattle.unit_source.specs.Inner.{Ready};
 
-use refusals::{Answer, Refusal};
+use refusals::Refusal;
 use shape::{Adjustment, Shape};
 
 // A source between two units: its offset, and the units since the last adjustment, as far as 3.
@@ -21,7 +21,7 @@ pub struct State {
 // The answer; how many of the two containers ended, 0 where the call was refused; and the state from then on, the old one where it was.
 #[derive(Clone, Copy)]
 pub struct Made {
-    pub answer: Answer,
+    pub answer: Result<(), Refusal>,
     pub ended: u8,
     pub state: State,
 }
@@ -50,23 +50,29 @@ fn out_of_range(top: u16, s: State) -> bool
 }
 
 // The answer to a call, by its state, what is asked, and the lengths of what it is lent.
-fn answer(shape: Shape, s: State, a: Adjustment, current: usize, next: usize, unit: usize) -> Answer
-    requires { Fit shape }
+fn answer(
+    shape: Shape,
+    s: State,
+    a: Adjustment,
+    current: usize,
+    next: usize,
+    unit: usize,
+) -> Result<(), Refusal>
     ensures { result ≡ answer_of (make_faults shape s a current next unit) }
 {
     if out_of_range(shape.top, s) {
-        return Answer::Refused(Refusal::State);
+        return Err(Refusal::State);
     }
     if (current != shape.size) | (next != shape.size) {
-        return Answer::Refused(Refusal::Container);
+        return Err(Refusal::Container);
     }
-    if unit != 3 * shape.step + shape.size {
-        return Answer::Refused(Refusal::Unit);
+    if unit != shape.unit_length() {
+        return Err(Refusal::Unit);
     }
     if is_adjustment(a) & (s.wait < 3) {
-        return Answer::Refused(Refusal::Adjustment);
+        return Err(Refusal::Adjustment);
     }
-    Answer::Done
+    Ok(())
 }
 
 // The pointer word: the offset, with its I bits inverted for an increment and its D bits for a decrement.
@@ -82,11 +88,11 @@ fn word_sent(a: Adjustment, offset: u16) -> u16
 
 // The whole unit of a source at an offset.
 fn write(shape: Shape, a: Adjustment, offset: u16, current: &[u8], next: &[u8], unit: &mut [u8])
-    requires { (Fit shape) × (Ready shape offset (length current.now) (length next.now) (length unit.old)) }
+    requires { Ready shape offset (length current.now) (length next.now) (length unit.old) }
     ensures { unit.new ≡ unit_sent shape a offset current.now next.now }
 {
-    let from = shape::run_from(shape, a);
-    let sent = shape::held_count(shape, offset);
+    let from = shape.run_from(a);
+    let sent = shape.held_count(offset);
     unit::header(shape.step, word_sent(a, offset), from, unit);
     unit::pour(current, next, sent, from, unit);
 }
@@ -103,27 +109,26 @@ fn wait_after(a: Adjustment, wait: u8) -> u8
 
 // One unit of any shape, of the current container and the next.
 fn make(shape: Shape, s: State, a: Adjustment, current: &[u8], next: &[u8], unit: &mut [u8]) -> Made
-    requires { Fit shape }
     ensures { MakesAs shape s a current.now next.now unit.old result unit.new }
 {
     match answer(shape, s, a, current.len(), next.len(), unit.len()) {
-        Answer::Refused(x) => {
+        Err(x) => {
             return Made {
-                answer: Answer::Refused(x),
+                answer: Err(x),
                 ended: 0,
                 state: s,
             };
         }
-        Answer::Done => {}
+        Ok(()) => {}
     }
     let offset = s.offset;
     let wait = s.wait;
     write(shape, a, offset, current, next, unit);
     Made {
-        answer: Answer::Done,
-        ended: shape::ended_by(a, offset),
+        answer: Ok(()),
+        ended: a.ended_by(offset),
         state: State {
-            offset: shape::offset_after(shape.top, a, offset),
+            offset: a.offset_after(shape.top, offset),
             wait: wait_after(a, wait),
         },
     }
@@ -133,5 +138,5 @@ fn make(shape: Shape, s: State, a: Adjustment, current: &[u8], next: &[u8], unit
 pub fn unit_source(s: State, a: Adjustment, current: &[u8], next: &[u8], unit: &mut [u8]) -> Made
     ensures { Makes au4 s a current.now next.now unit.old result unit.new }
 {
-    make(shape::au4_shape(), s, a, current, next, unit)
+    make(Shape::au4(), s, a, current, next, unit)
 }

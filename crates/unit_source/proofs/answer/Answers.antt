@@ -8,8 +8,8 @@ returns-then-out_of_range c = search wrong_state
 pub returns-then-current-shape : goal.returns-then-current-shape
 returns-then-current-shape c = search wrong_container
 
-pub returns-then-unit-shape : goal.returns-then-unit-shape
-returns-then-unit-shape c = search wrong_unit
+pub returns-then-unit-unit_length : goal.returns-then-unit-unit_length
+returns-then-unit-unit_length c = search wrong_unit
 
 pub returns-then-is_adjustment-s : goal.returns-then-is_adjustment-s
 returns-then-is_adjustment-s c = search wrong_adjustment
