@@ -1,13 +1,10 @@
--- The formulas of a termination, written out: the terms add nothing to them, and leave nothing out; and what settled comes to. Assumes nothing.
+-- The formulas of a termination, written out: the terms add nothing to them, and leave nothing out. Assumes nothing.
 use mathlib.Core.Path.{◌≡◌, refl}
 use mathlib.Core.Bool.{Bool, ◌&&◌, ◌||◌, not}
 use Rattle.settings.specs.declared.Flags.{Flags}
-use Rattle.settings.specs.declared.Settings.{Settings}
-use Rattle.monitor.specs.declared.Monitor.{Monitor}
 use Rattle.unit_end.specs.declared.Defects.{Defects}
 use Rattle.unit_end.specs.Terms.{has, or_any, and_all, and_none, termination}
-use Rattle.unit_end.specs.Actions.{defects_of, tsf_of, actions_of, causes_of}
-use Rattle.unit_end.specs.Settled.{none_stands, label_expected, trace_expected, settled_of}
+use Rattle.unit_end.specs.Actions.{tsf_of, actions_of, causes_of}
 
 -- "TSF = SSF or dUNEQ or dTIM"
 pub tsf_are : (ssf : Bool) (d : Defects) → (ssf || d.uneq || d.tim) ≡ tsf_of termination ssf d
@@ -34,10 +31,3 @@ pub causes_are : (alarm lost tsf : Bool) (d : Defects) (f : Flags) → tsf ≡ t
     ≡ causes_of termination alarm lost d f
 unfolding has and_all and_none causes_of
 causes_are alarm lost tsf d f e = rw e refl
-
--- "if the state is normal" and the three hold
-pub settled_are : (normal : Bool) (m : Monitor) (e : Settings) (d : Defects) (none label trace : Bool)
-    → d ≡ defects_of m → none ≡ none_stands d → label ≡ label_expected m.watch.label e.label → trace ≡ trace_expected m.watch.trace e.trace
-    → (normal && none && label && trace) ≡ settled_of normal m e
-unfolding settled_of
-settled_are normal m e d none label trace d-is n l t = rw (n, l, t, d-is) refl

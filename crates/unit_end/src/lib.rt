@@ -43,6 +43,7 @@ pub struct Causes {
 }
 
 // The defects that the monitor has.
+#[tactic(auto, unfolding(crate::specs::Actions::defects_of))]
 pub fn defects_of(m: monitor::Monitor) -> Defects
     ensures { result ≡ defects_of m }
 {
@@ -55,6 +56,7 @@ pub fn defects_of(m: monitor::Monitor) -> Defects
 }
 
 // TSF: what actions and causes have in common.
+#[tactic(auto, unfolding(crate::specs::Terms::has, crate::specs::Terms::or_any))]
 fn tsf(ssf: bool, d: Defects) -> bool
     ensures { result ≡ tsf_of termination ssf d }
 {
@@ -62,20 +64,21 @@ fn tsf(ssf: bool, d: Defects) -> bool
 }
 
 // The actions at a unit's end.
+#[tactic(auto, unfolding(crate::specs::Actions::actions_of, crate::specs::Terms::has, crate::specs::Terms::or_any))]
 pub fn actions_of(ssf: bool, d: Defects) -> Actions
     ensures { result ≡ actions_of termination ssf d }
 {
-    let plm = d.plm;
     let tsf = tsf(ssf, d);
     Actions {
-        ssf: ssf,
-        tsf: tsf,
-        ais: tsf | plm,
+        ssf,
+        tsf,
+        ais: tsf | d.plm,
         rdi: tsf,
     }
 }
 
 // The causes at a unit's end: the state is alarm, or lost, or neither. cAIS, cLOP and cPLM do not ask for monitored.
+#[tactic(auto, unfolding(crate::specs::Actions::causes_of, crate::specs::Terms::has, crate::specs::Terms::and_all, crate::specs::Terms::and_none))]
 pub fn causes_of(alarm: bool, lost: bool, d: Defects, f: Flags) -> Causes
     ensures { result ≡ causes_of termination alarm lost d f }
 {
@@ -92,6 +95,7 @@ pub fn causes_of(alarm: bool, lost: bool, d: Defects, f: Flags) -> Causes
 }
 
 // Whether no defect stands.
+#[tactic(auto, unfolding(crate::specs::Settled::none_stands))]
 fn none_stands(d: Defects) -> bool
     ensures { result ≡ none_stands d }
 {
@@ -99,40 +103,40 @@ fn none_stands(d: Defects) -> bool
 }
 
 // Whether a label is accepted, and is one to expect now: dPLM was renewed by the last container, which may have been told of another.
+#[tactic(auto, unfolding(crate::specs::Settled::label_expected))]
 fn label_expected(a: overhead::Accepted, expected: u8) -> bool
     ensures { result ≡ label_expected a expected }
 {
-    let known = a.known;
-    known & overhead::label_fits(a.value, expected)
+    a.known && overhead::label_fits(a.value, expected)
 }
 
 // Whether a trace is accepted, and is the expected one.
+#[tactic(auto, unfolding(crate::specs::Settled::trace_expected))]
 fn trace_expected(t: trace_monitor::Trace, expected: [u8; 15]) -> bool
     ensures { result ≡ trace_expected t expected }
 {
-    let known = t.known;
-    let accepted = t.accepted;
-    let same = trace_message::same(&accepted, &expected);
-    known & same
+    t.known && trace_message::same(&t.accepted, &expected)
 }
 
 // Whether a unit that left this monitor ended settled.
+#[tactic(auto, unfolding(crate::specs::Settled::settled_of))]
 pub fn settled(normal: bool, m: monitor::Monitor, e: Settings) -> bool
     ensures { result ≡ settled_of normal m e }
 {
-    let label = m.watch.label;
-    let trace = m.watch.trace;
-    let expected = e.trace;
-    let d = defects_of(m);
-    normal & none_stands(d) & label_expected(label, e.label) & trace_expected(trace, expected)
+    normal
+        && none_stands(defects_of(m))
+        && label_expected(m.watch.label, e.label)
+        && trace_expected(m.watch.trace, e.trace)
 }
 
 // The unsettled total after one more unit.
+#[tactic(auto, unfolding(crate::specs::Settled::total_of))]
 pub fn total_after(total: u16, settled: bool) -> u16
     ensures { result ≡ total_of total settled }
 {
     if settled {
-        return total;
+        total
+    } else {
+        total.saturating_add(1)
     }
-    if total < 65535 { total + 1 } else { 65535 }
 }

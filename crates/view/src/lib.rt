@@ -15,20 +15,15 @@ pub struct View<'a> {
 }
 
 // The `size` bytes of a buffer from `place` on, where a container is there.
+#[tactic(auto, unfolding(crate::specs::View::part_of))]
 fn part<'a>(buffer: &'a [u8], there: bool, place: usize, size: usize) -> &'a [u8]
     ensures { result.now ≡ part_of buffer.now there place size }
 {
     if !there {
-        return &buffer[..0];
+        return &[];
     }
-    if buffer.len() < place {
-        return &buffer[..0];
-    }
-    if buffer.len() - place < size {
-        return &buffer[..0];
-    }
-    let e = place + size;
-    &buffer[place..e]
+    let rest = buffer.get(place..).unwrap_or(&[]);
+    rest.get(..size).unwrap_or(&[])
 }
 
 // What ended in a unit, by the sink's answer, where a container has `size` bytes: a part of the done buffer and a part of the unit.
@@ -41,19 +36,15 @@ pub fn of<'a>(ended: Ended, size: usize, done: &'a [u8], unit: &'a [u8]) -> View
 }
 
 // Of the two, the one that ended k-th in the unit, counted from 0.
+#[tactic(auto, unfolding(crate::specs::View::in_order))]
 fn nth<'a>(ended: Ended, k: usize, first: &'a [u8], second: &'a [u8]) -> &'a [u8]
     ensures { result.now ≡ get_or (in_order ended first.now second.now) k [] }
 {
-    if ended.completed & (k == 0) {
-        return first;
+    match (ended.completed, ended.inside, k) {
+        (true, _, 0) => first,
+        (true, true, 1) | (false, true, 0) => second,
+        _ => &[],
     }
-    if ended.completed & ended.inside & (k == 1) {
-        return second;
-    }
-    if !ended.completed & ended.inside & (k == 0) {
-        return second;
-    }
-    &second[..0]
 }
 
 // The container that ended k-th in the unit, counted from 0: first the one completed, then the one inside. Empty where so many did not end.
