@@ -72,7 +72,7 @@ fn say_completed<'a, P: Print>(
     last: &mut [u8],
 ) {
     let told = x.first;
-    let shape = shape::au4_shape();
+    let shape = shape::Shape::au4();
     if x.completed {
         bench_say::text(out, b" c=D@0");
         say_container(
@@ -93,7 +93,7 @@ fn say_inside<'a, P: Print>(
     last: &mut [u8],
 ) {
     let told = x.second;
-    let shape = shape::au4_shape();
+    let shape = shape::Shape::au4();
     if x.inside {
         let k = x.completed as usize;
         bench_say::text(out, b" c=U@");

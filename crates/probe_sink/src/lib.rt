@@ -150,7 +150,7 @@ pub fn probe_handed<'a>(
 ) -> usize
     ensures { WritesContainer ended unit.now done.now k out.old result out.new }
 {
-    let shape = shape::au4_shape();
+    let shape = shape::Shape::au4();
     let container = view::container(ended, shape.size, done, unit, k);
     if out.len() < container.len() {
         return 0;
