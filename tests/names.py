@@ -5,9 +5,9 @@ Usage: names.py functions|items|definitions|theorems|parts|edits|cases|cited    
 
 As a module, each of these answers with a dictionary in the order of the files:
 
-    public_functions()   `crate::name`            -> Place     a library's `pub fn` and `pub extern "C" fn`; a program has none
+    public_functions()   `crate::name`            -> Place     a library's `pub fn` and `pub extern "C" fn`; a program has none. A method is `crate::Type::name`
     signatures()         `crate::name`            -> its parameters, each a name and a type, and its result; of the public functions
-    items()              `crate::name`            -> Place     every function, constant, struct and enum, private ones too; of a module `crate::module::name`
+    items()              `crate::name`            -> Place     every function, constant, struct and enum, private ones too; of a module `crate::module::name`, a method `crate::Type::name`
     definitions()        `crate/File.name`        -> Place     the top-level names of crates/*/specs/*.antt
     theorems()           `crate/proofs/File.name` -> Place     those of crates/*/proofs/*.antt, but not of what proves one function, proofs/FUNCTION/*.antt
     parts()              either, `.part` behind   -> Place     a record's fields and a data type's cases, in specs and proofs
@@ -22,7 +22,7 @@ As a module, each of these answers with a dictionary in the order of the files:
     types_named()        definition               -> the structs and enums, `crate::Name`, that its own text names
     groups()             crates.txt: the headings, each with its crates, each with those that it rests on
     exports()            the static libraries, `card_c` -> `card`: each does nothing but export the functions of that library to C
-    strays()             faults: whatever else is public and a function in a library, as a method, where no page could name it; a crate that rests on a program's part;
+    strays()             faults: whatever else is public and a function in a library, where no page could name it; a crate that rests on a program's part;
                          a static library whose exports are not its library's functions by name, parameters, answer, clauses and what these words mean, each a call of its function
 
 A Place is a file, from the repository's root, a line, and whether the name is public there. A fault of the text that stops the reading
@@ -211,7 +211,11 @@ def parts():
 
 FUNCTION = re.compile(r'^(?P<public>pub )?(?:extern "C" )?fn (?P<name>\w+)', re.M)
 ITEM = re.compile(r'^(?P<public>pub )?(?:(?:extern "C" )?fn|const|struct|enum) (?P<name>\w+)', re.M)
-IMPORT = re.compile(r"^ghost use (?P<path>[^\s;{]+?)(?:\.\{(?P<names>[^}]*)\}| as (?P<alias>\S+));", re.M)
+# what is a type's own stands in an `impl` of it, at a line's start; its methods four blanks in
+IMPL = re.compile(r"^impl(?:<[^>{]*>)? (?P<type>\w+)(?:<[^>{]*>)? \{", re.M)
+METHOD = re.compile(r"^    (?P<public>pub )?fn (?P<name>\w+)", re.M)
+SELF = re.compile(r"(?P<lent>&\s*(?:'\w+\s+)?(?:mut\s+)?)?(?:mut\s+)?self")
+IMPORT = re.compile(r"^ *ghost use (?P<path>[^\s;{]+?)(?:\.\{(?P<names>[^}]*)\}| as (?P<alias>\S+));", re.M)
 SPECS = re.compile(r"^Rattle\.(?P<crate>\w+)\.specs\.(?P<file>[^.]+)$")
 CLAUSE = re.compile(r"\b(?P<word>requires|ensures)\b[^{\n]*\{")
 BOUND = re.compile(r"λ ([^.]*)\.\s")
@@ -277,13 +281,26 @@ def in_braces(text, at):
     return text.count("{", 0, at) > text.count("}", 0, at)
 
 
+def methods_in(text):
+    """The methods of a source, each `Type::name` with where it stands."""
+    for own in IMPL.finditer(text):
+        for found in METHOD.finditer(text, own.end(), text.find("\n}", own.end())):
+            yield f"{own['type']}::{found['name']}", found
+
+
+def functions_in(text):
+    """The functions of a source and the methods of its types, in their order, each with where it stands."""
+    found = [(function["name"], function) for function in FUNCTION.finditer(text)] + list(methods_in(text))
+    return sorted(found, key=lambda named: named[1].start())
+
+
 def public_found():
-    """The public functions that a page can name, those of lib.rt itself: each name with its file, the code there and where it stands in it."""
+    """The public functions that a page can name, those of lib.rt itself and of its types: each name with its file, the code there and where it stands in it."""
     for crate, path in rt_files("src/lib.rt"):
         text = code(path)
-        for found in FUNCTION.finditer(text):
-            if found["public"] and not in_braces(text, found.start()):
-                yield f"{crate}::{found['name']}", path, text, found
+        for name, found in functions_in(text):
+            if found["public"] and ("::" in name or not in_braces(text, found.start())):
+                yield f"{crate}::{name}", path, text, found
 
 
 @functools.cache
@@ -303,10 +320,19 @@ def strays():
         text = code(path)
         for found in PUBLIC.finditer(text):
             place = Place(shown(path), line_of(text, found.start()), True)
-            if public_functions().get(f"{crate}::{found['name']}") != place:
+            if place not in public_functions().values():
                 faults.append(f"{place.file}:{place.line}: `{' '.join(found[0].split())}` is public, and does not stand in lib.rt, at a line's start and in no braces, "
-                              "as `pub fn` or `pub extern \"C\" fn`: no page has a place for it")
+                              "as `pub fn` or `pub extern \"C\" fn`, nor in an `impl` of a type alone: no page has a place for it")
     return faults
+
+
+def parameter(piece):
+    """A parameter's name and type, a method's `self` too; nothing where it is neither."""
+    own = SELF.fullmatch(piece)
+    if own:
+        return "self", f"{own['lent'] or ''}Self"
+    found = re.fullmatch(r"(?:mut )?(\w+)\s*:\s*(\S.*)", piece, re.S)
+    return found and found.groups()
 
 
 def signature(text, at, path):
@@ -319,11 +345,11 @@ def signature(text, at, path):
             pieces.append("")
         elif depth:
             pieces[-1] += letter
-    parameters = [re.fullmatch(r"(?:mut )?(\w+)\s*:\s*(\S.*)", piece.strip(), re.S) for piece in pieces if piece.strip()]
+    parameters = [parameter(piece.strip()) for piece in pieces if piece.strip()]
     if None in parameters:
         raise Unreadable(f"{shown(path)}:{line_of(text, at)}: a parameter that is no name with its type")
     result = re.compile(r"\s*->\s*([^{\n]*)").match(text, at)
-    return Signature([found.groups() for found in parameters], result[1].strip() if result else "")
+    return Signature(parameters, result[1].strip() if result else "")
 
 
 @functools.cache
@@ -339,6 +365,8 @@ def items():
         text = text_of(path)
         for found in ITEM.finditer(text):
             put(names, f"{front}::{found['name']}", Place(shown(path), line_of(text, found.start()), bool(found["public"])))
+        for name, found in methods_in(text):
+            put(names, f"{front}::{name}", Place(shown(path), line_of(text, found.start()), bool(found["public"])))
     return names
 
 
@@ -420,10 +448,10 @@ def contracts():
     for crate, path in rt_files():
         text = text_of(path)
         known = imports(text)
-        for found in FUNCTION.finditer(text):
+        for function, found in functions_in(text):
             clauses, bound = contract(text, found.start(), path)
             all_cited = {name for _, clause in clauses for name in words_cited(clause, known, bound | bound_in(clause))}
-            names[f"{crate}::{found['name']}"] = sorted(all_cited)
+            names[f"{crate}::{function}"] = sorted(all_cited)
     return names
 
 
@@ -432,10 +460,10 @@ def asking():
     names = set()
     for crate, path in rt_files():
         text = text_of(path)
-        for found in FUNCTION.finditer(text):
+        for function, found in functions_in(text):
             clauses, bound = contract(text, found.start(), path)
             if any(word == "requires" for word, _ in clauses):
-                names.add(f"{crate}::{found['name']}")
+                names.add(f"{crate}::{function}")
     return names
 
 

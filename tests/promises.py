@@ -54,7 +54,7 @@ MEANINGS = {
     "now": [],
 }
 
-FUNCTION = re.compile(r"[a-z_0-9]+::[a-z_0-9]+")
+FUNCTION = re.compile(r"[a-z_0-9]+::(?:[A-Z]\w*::)?[a-z_0-9]+")
 EDIT = re.compile(r"[a-z_0-9]+/[a-z_0-9]+")
 DEFINITION = re.compile(r"[a-z_0-9]+/(?:proofs/)?[A-Z]\w*\.\S+")
 THEOREM = re.compile(r"[a-z0-9]+(?:_[a-z0-9]+)+")
@@ -196,7 +196,7 @@ def statements():
         for module, alias in re.findall(r"^(?:pub )?use (\S+) as (\S+)$", text, re.M):
             if alias in aliases:
                 raise names.Unreadable(f"{names.shown(path)}: two modules are named {alias}")
-            aliases[alias] = re.sub(r"^Rattle\.(\w+)\.proofs\.(\w+)\.(Kinds|Reads)$", r"\1::\2 \3", module)
+            aliases[alias] = re.sub(r"^Rattle\.(\w+)\.proofs\.((?:[A-Z]\w*\.)?\w+)\.(Kinds|Reads)$", lambda of: f"{of[1]}::{of[2].replace('.', '::')} {of[3]}", module)
         for stated in names.STATED.finditer(text):
             place = names.Place(names.shown(path), names.line_of(text, stated.start()), True)
             if stated[1] in found:

@@ -14,7 +14,6 @@ use Rattle.refusals.proofs.Wrong.{none_done, outcome_answer, outcome_done, outco
 use Rattle.refusals.proofs.Joined.{joined_refused}
 use Rattle.settings.specs.Faults.{path_faults, settings_answer}
 use Rattle.settings.proofs.Refuses.{check_path}
-use Rattle.shape.specs.Shape.{Fit}
 use Rattle.shape.specs.declared.Shape.{Shape}
 use Rattle.container.specs.Payload.{payload_faults, payload_handed, Handed, payload_call}
 use Rattle.container.proofs.PayloadLaws as payload-laws
@@ -26,8 +25,8 @@ use Rattle.container_source.proofs.SourceLaws as source-laws
 use Rattle.container_source.proofs.SourceLaws.{Sendable, sendable}
 
 -- a shape that fits has a column
-pub some_columns : (s : Shape) → Fit s → 0 < s.columns
-some_columns s f = omega (arith, f.nine, f.some, f.two)
+pub some_columns : (s : Shape) → 0 < s.columns
+some_columns s = omega (arith, s.fits.nine, s.fits.some, s.fits.two)
 
 -- ---- the container source
 
@@ -70,7 +69,7 @@ module _ (s : Shape) (state : State) (g : Given) (trace payload before : List �
 
   pub sendable_source : Sendable s state.place g.label trace (length payload) (length before) g.violations → (container_source s state g trace payload before).sent.answer ≡ Ok tt
   sendable_source a =
-      source_answer ∙ sym (source-laws.answer_done s state.place g.label trace (length payload) (length before) g.violations a.place_is (answer_of (path_faults g.label trace)) refl (none_done (path_faults g.label trace) a.path_is) a.payload_is a.container_is a.violations_is)
+      source_answer ∙ sym (source-laws.answer_done s state.place g.label trace (length payload) (length before) g.violations a.place_is (answer_of (path_faults g.label trace)) refl (none_done (path_faults g.label trace) a.path_is) _ refl a.payload_is a.container_is a.violations_is)
 
 -- ---- the payload call
 
@@ -93,4 +92,4 @@ module _ (s : Shape) (container : List ℕ) (ais : Bool) (before : List ℕ) whe
 
   pub handable_payload : Handable s (length container) (length before) → (payload_call s container ais before).answer ≡ Ok tt
   handable_payload h =
-      payload_answer ∙ sym (payload-laws.answer_done s (length container) (length before) h.container_is h.payload_is)
+      payload_answer ∙ sym (payload-laws.answer_done s (length container) (length before) _ h.container_is refl h.payload_is)

@@ -17,18 +17,22 @@ use Rattle.refusals.proofs.place.Kinds as refusals-place
 use Rattle.refusals.proofs.place.Reads as refusals-place-promise
 use Rattle.refusals.proofs.trace_number.Kinds as refusals-trace-number
 use Rattle.refusals.proofs.trace_number.Reads as refusals-trace-number-promise
-use Rattle.shape.proofs.au4_shape.Kinds as shape-au4-shape
-use Rattle.shape.proofs.au4_shape.Reads as shape-au4-shape-promise
-use Rattle.shape.proofs.place.Kinds as shape-place
-use Rattle.shape.proofs.place.Reads as shape-place-promise
-use Rattle.shape.proofs.held_count.Kinds as shape-held-count
-use Rattle.shape.proofs.held_count.Reads as shape-held-count-promise
-use Rattle.shape.proofs.offset_after.Kinds as shape-offset-after
-use Rattle.shape.proofs.offset_after.Reads as shape-offset-after-promise
-use Rattle.shape.proofs.run_from.Kinds as shape-run-from
-use Rattle.shape.proofs.run_from.Reads as shape-run-from-promise
-use Rattle.shape.proofs.ended_by.Kinds as shape-ended-by
-use Rattle.shape.proofs.ended_by.Reads as shape-ended-by-promise
+use Rattle.shape.proofs.Shape.au4.Kinds as shape-au4
+use Rattle.shape.proofs.Shape.au4.Reads as shape-au4-promise
+use Rattle.shape.proofs.Shape.unit_length.Kinds as shape-unit-length
+use Rattle.shape.proofs.Shape.unit_length.Reads as shape-unit-length-promise
+use Rattle.shape.proofs.Shape.payload_length.Kinds as shape-payload-length
+use Rattle.shape.proofs.Shape.payload_length.Reads as shape-payload-length-promise
+use Rattle.shape.proofs.Shape.place.Kinds as shape-place
+use Rattle.shape.proofs.Shape.place.Reads as shape-place-promise
+use Rattle.shape.proofs.Shape.held_count.Kinds as shape-held-count
+use Rattle.shape.proofs.Shape.held_count.Reads as shape-held-count-promise
+use Rattle.shape.proofs.Shape.run_from.Kinds as shape-run-from
+use Rattle.shape.proofs.Shape.run_from.Reads as shape-run-from-promise
+use Rattle.shape.proofs.Adjustment.offset_after.Kinds as shape-offset-after
+use Rattle.shape.proofs.Adjustment.offset_after.Reads as shape-offset-after-promise
+use Rattle.shape.proofs.Adjustment.ended_by.Kinds as shape-ended-by
+use Rattle.shape.proofs.Adjustment.ended_by.Reads as shape-ended-by-promise
 use Rattle.container.proofs.rows.Kinds as container-rows
 use Rattle.container.proofs.rows.Reads as container-rows-promise
 use Rattle.container.proofs.payload_call.Kinds as payload-call
@@ -69,8 +73,14 @@ refusals_trace_number_determined κs a x y s t p q = p ∙ sym q
 
 -- ---- shape
 
-pub shape_au4_shape_determined : Determines {O = Shape} 0 shape-au4-shape.ps shape-au4-shape.r shape-au4-shape-promise.Post (λ κs r e. r)
-shape_au4_shape_determined κs a x y s t p q = p ∙ sym q
+pub shape_au4_determined : Determines {O = Shape} 0 shape-au4.ps shape-au4.r shape-au4-promise.Post (λ κs r e. r)
+shape_au4_determined κs a x y s t p q = p ∙ sym q
+
+pub shape_unit_length_determined : Determines {O = ℕ} 0 shape-unit-length.ps shape-unit-length.r shape-unit-length-promise.Post (λ κs r e. r)
+shape_unit_length_determined κs a x y s t p q = p ∙ sym q
+
+pub shape_payload_length_determined : Determines {O = ℕ} 0 shape-payload-length.ps shape-payload-length.r shape-payload-length-promise.Post (λ κs r e. r)
+shape_payload_length_determined κs a x y s t p q = p ∙ sym q
 
 pub shape_place_determined : Determines {O = ℕ} 0 shape-place.ps shape-place.r shape-place-promise.Post (λ κs r e. r)
 shape_place_determined κs a x y s t p q = p.0 ∙ sym q.0

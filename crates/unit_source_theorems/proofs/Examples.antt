@@ -5,7 +5,8 @@ use mathlib.Core.List.{List, [], ◌∷◌, map}
 use Prim.Native.Nat.{ℕ}
 use native.Mathlib.Omega.{arith}
 use lib.ListN.{take, replicate}
-use Rattle.shape.specs.Shape.{au4, Fit}
+use Rattle.shape.specs.Fits.{Fits}
+use Rattle.shape.specs.Shape.{au4}
 use Rattle.shape.specs.declared.Shape.{Shape}
 use Rattle.shape.specs.declared.Adjustment.{Adjustment}
 use Rattle.shape.specs.declared.Adjustment.TheVariants.{Nothing, Increment, Decrement}
@@ -31,11 +32,11 @@ heads = refl
 
 -- ---- a run
 
-abbrev pub small : Shape
-small = record { step = 1; size = 9; top = 8; columns = 1 }
+pub small_fits : Fits 1 9 8 1
+small_fits = record { some = omega arith; fills = refl; nine = refl; two = omega arith; ten = omega arith; low = omega arith }
 
-pub small_fit : Fit small
-small_fit = record { some = omega arith; fills = refl; nine = refl; two = omega arith; ten = omega arith; low = omega arith }
+abbrev pub small : Shape
+small = record { step = 1; size = 9; top = 8; columns = 1; fits = small_fits }
 
 -- container i is nine bytes of i
 pub box : ℕ → List ℕ
