@@ -3,7 +3,6 @@
 
 use bench_say::Output;
 use receiving::{Ended, Told};
-use refusals::Answer;
 use settings::Settings;
 use sink::Received;
 use unit_end::{Actions, Causes, Defects};
@@ -12,7 +11,7 @@ use unit_end::{Actions, Causes, Defects};
 pub fn say_order<P: Print>(out: &mut Output<P>, e: Settings) {
     let answer = settings::answer(e);
     match answer {
-        Answer::Refused(_) => {
+        Err(_) => {
             bench_say::refused(
                 out,
                 b"rx refused ",
@@ -21,7 +20,7 @@ pub fn say_order<P: Print>(out: &mut Output<P>, e: Settings) {
                 0,
             );
         }
-        Answer::Done => {}
+        Ok(()) => {}
     }
 }
 
@@ -206,7 +205,7 @@ pub fn feed<P: Print>(
     let r = sink::sink(s, e, unit, held, done);
     let answer = r.answer;
     match answer {
-        Answer::Refused(_) => {
+        Err(_) => {
             bench_say::refused(
                 out,
                 b"refused ",
@@ -216,7 +215,7 @@ pub fn feed<P: Print>(
             );
             return s;
         }
-        Answer::Done => {}
+        Ok(()) => {}
     }
     say_received(out, r, unit, held, done, last);
     r.state
@@ -227,7 +226,7 @@ pub fn payload<P: Print>(out: &mut Output<P>, ais: bool, last: &[u8]) {
     let mut bytes = [0xeeu8; 2340];
     let answer = container::payload_call(last, ais, &mut bytes);
     match answer {
-        Answer::Refused(_) => {
+        Err(_) => {
             bench_say::refused(
                 out,
                 b"payload refused ",
@@ -237,7 +236,7 @@ pub fn payload<P: Print>(out: &mut Output<P>, ais: bool, last: &[u8]) {
             );
             return;
         }
-        Answer::Done => {}
+        Ok(()) => {}
     }
     bench_say::text(out, b"payload fnv=");
     bench_say::fnv(out, &bytes);

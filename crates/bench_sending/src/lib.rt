@@ -4,7 +4,7 @@
 use bench_say::Output;
 use bench_script::least;
 use container_source::{Given, Unexamined};
-use refusals::{Answer, Refusal};
+use refusals::Refusal;
 use shape::Adjustment;
 use unit_source::Made;
 
@@ -43,26 +43,20 @@ pub fn fresh() -> Sources {
 }
 
 // What every container with these settings will be refused for, in the order in which the container source refuses.
-fn order(x: Sent) -> Answer {
+fn order(x: Sent) -> Result<(), Refusal> {
     let characters = x.trace;
-    let path = settings::path_answer(x.label, &characters);
-    match path {
-        Answer::Refused(_) => {
-            return path;
-        }
-        Answer::Done => {}
-    }
+    settings::path_answer(x.label, &characters)?;
     if 8 < x.violations {
-        return Answer::Refused(Refusal::Violations);
+        return Err(Refusal::Violations);
     }
-    Answer::Done
+    Ok(())
 }
 
 // `tx`: says at once that the settings will be refused, where they will.
 pub fn say_order<P: Print>(out: &mut Output<P>, x: Sent) {
     let answer = order(x);
     match answer {
-        Answer::Refused(_) => {
+        Err(_) => {
             bench_say::refused(
                 out,
                 b"tx refused ",
@@ -71,7 +65,7 @@ pub fn say_order<P: Print>(out: &mut Output<P>, x: Sent) {
                 0,
             );
         }
-        Answer::Done => {}
+        Ok(()) => {}
     }
 }
 
@@ -117,7 +111,7 @@ fn queue_one<P: Print>(out: &mut Output<P>, q: Sources, x: Sent, container: &mut
     let sent = container_source::container_source(state, given, &characters, &bytes, container);
     let answer = sent.answer;
     match answer {
-        Answer::Refused(_) => {
+        Err(_) => {
             bench_say::refused(
                 out,
                 b"container refused ",
@@ -127,7 +121,7 @@ fn queue_one<P: Print>(out: &mut Output<P>, q: Sources, x: Sent, container: &mut
             );
             return q;
         }
-        Answer::Done => {}
+        Ok(()) => {}
     }
     let queued = if_less(q.queued);
     let units = q.units;
@@ -230,7 +224,7 @@ fn send_unit<P: Print>(
     let made = next_unit(state, a, queue, unit);
     let answer = made.answer;
     match answer {
-        Answer::Refused(_) => {
+        Err(_) => {
             bench_say::refused(
                 out,
                 b"unit refused ",
@@ -240,7 +234,7 @@ fn send_unit<P: Print>(
             );
             return q;
         }
-        Answer::Done => {}
+        Ok(()) => {}
     }
     let units = made.state;
     say_unit(out, unit, made.ended, units.offset);
