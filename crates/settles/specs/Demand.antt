@@ -26,7 +26,7 @@ use Rattle.settles_stream.specs.InOrder.{boxes, violated_told}
 use Rattle.settings.specs.declared.Settings.{Settings}
 use Rattle.sink.specs.Sink as sink
 use Rattle.sink.specs.declared.State as sink-state
-use Rattle.sink.specs.declared.Received.{Received}
+use Rattle.sink.specs.Sink.{Received}
 use Rattle.sink_theorems.specs.Reach as reach
 
 -- ---- the run
