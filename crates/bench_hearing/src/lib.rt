@@ -3,16 +3,15 @@
 
 use bench_say::Output;
 use receiving::{Ended, Told};
-use refusals::Answer;
 use settings::Settings;
-use sink::Received;
+use sink::Report;
 use unit_end::{Actions, Causes, Defects};
 
 // `rx`: says at once that every call with these settings will be refused, where it will.
 pub fn say_order<P: Print>(out: &mut Output<P>, e: Settings) {
     let answer = settings::answer(e);
     match answer {
-        Answer::Refused(_) => {
+        Err(_) => {
             bench_say::refused(
                 out,
                 b"rx refused ",
@@ -21,7 +20,7 @@ pub fn say_order<P: Print>(out: &mut Output<P>, e: Settings) {
                 0,
             );
         }
-        Answer::Done => {}
+        Ok(()) => {}
     }
 }
 
@@ -171,13 +170,13 @@ fn say_end<P: Print>(out: &mut Output<P>, settled: bool, total: u16, held: &[u8]
 
 fn say_received<'a, P: Print>(
     out: &mut Output<P>,
-    r: Received,
+    s: sink::State,
+    r: Report,
     unit: &'a [u8],
     held: &[u8],
     done: &'a [u8],
     last: &mut [u8],
 ) {
-    let s = r.state;
     let p = s.pointer;
     let state = p.state;
     let ended = r.ended;
@@ -203,23 +202,22 @@ pub fn feed<P: Print>(
     done: &mut [u8],
     last: &mut [u8],
 ) -> sink::State {
-    let r = sink::sink(s, e, unit, held, done);
-    let answer = r.answer;
-    match answer {
-        Answer::Refused(_) => {
+    let mut after = s;
+    match sink::sink(&mut after, e, unit, held, done) {
+        Err(x) => {
             bench_say::refused(
                 out,
                 b"refused ",
-                refusals::number(answer),
-                refusals::place(answer),
+                refusals::number(Err(x)),
+                refusals::place(Err(x)),
                 0,
             );
-            return s;
         }
-        Answer::Done => {}
+        Ok(r) => {
+            say_received(out, after, r, unit, held, done, last);
+        }
     }
-    say_received(out, r, unit, held, done, last);
-    r.state
+    after
 }
 
 // `payload`: of the container handed back last.
@@ -227,7 +225,7 @@ pub fn payload<P: Print>(out: &mut Output<P>, ais: bool, last: &[u8]) {
     let mut bytes = [0xeeu8; 2340];
     let answer = container::payload_call(last, ais, &mut bytes);
     match answer {
-        Answer::Refused(_) => {
+        Err(_) => {
             bench_say::refused(
                 out,
                 b"payload refused ",
@@ -237,7 +235,7 @@ pub fn payload<P: Print>(out: &mut Output<P>, ais: bool, last: &[u8]) {
             );
             return;
         }
-        Answer::Done => {}
+        Ok(()) => {}
     }
     bench_say::text(out, b"payload fnv=");
     bench_say::fnv(out, &bytes);

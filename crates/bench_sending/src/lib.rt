@@ -4,9 +4,8 @@
 use bench_say::Output;
 use bench_script::least;
 use container_source::{Given, Unexamined};
-use refusals::{Answer, Refusal};
+use refusals::Refusal;
 use shape::Adjustment;
-use unit_source::Made;
 
 // The two sources; how many containers are queued; the seed of the next payload.
 #[derive(Clone, Copy)]
@@ -43,26 +42,20 @@ pub fn fresh() -> Sources {
 }
 
 // What every container with these settings will be refused for, in the order in which the container source refuses.
-fn order(x: Sent) -> Answer {
+fn order(x: Sent) -> Result<(), Refusal> {
     let characters = x.trace;
-    let path = settings::path_answer(x.label, &characters);
-    match path {
-        Answer::Refused(_) => {
-            return path;
-        }
-        Answer::Done => {}
-    }
+    settings::path_answer(x.label, &characters)?;
     if 8 < x.violations {
-        return Answer::Refused(Refusal::Violations);
+        return Err(Refusal::Violations);
     }
-    Answer::Done
+    Ok(())
 }
 
 // `tx`: says at once that the settings will be refused, where they will.
 pub fn say_order<P: Print>(out: &mut Output<P>, x: Sent) {
     let answer = order(x);
     match answer {
-        Answer::Refused(_) => {
+        Err(_) => {
             bench_say::refused(
                 out,
                 b"tx refused ",
@@ -71,7 +64,7 @@ pub fn say_order<P: Print>(out: &mut Output<P>, x: Sent) {
                 0,
             );
         }
-        Answer::Done => {}
+        Ok(()) => {}
     }
 }
 
@@ -113,11 +106,16 @@ fn queue_one<P: Print>(out: &mut Output<P>, q: Sources, x: Sent, container: &mut
         remote: x.remote,
     };
     let characters = x.trace;
-    let state = q.containers;
-    let sent = container_source::container_source(state, given, &characters, &bytes, container);
-    let answer = sent.answer;
+    let mut containers = q.containers;
+    let answer = container_source::container_source(
+        &mut containers,
+        given,
+        &characters,
+        &bytes,
+        container,
+    );
     match answer {
-        Answer::Refused(_) => {
+        Err(_) => {
             bench_say::refused(
                 out,
                 b"container refused ",
@@ -127,12 +125,11 @@ fn queue_one<P: Print>(out: &mut Output<P>, q: Sources, x: Sent, container: &mut
             );
             return q;
         }
-        Answer::Done => {}
+        Ok(()) => {}
     }
     let queued = if_less(q.queued);
     let units = q.units;
     let seed = after(q.seed);
-    let containers = sent.state;
     Sources {
         containers,
         units,
@@ -214,7 +211,12 @@ fn after_unit(q: Sources, units: unit_source::State, ended: u8) -> Sources {
 }
 
 // The next unit, of two queued containers.
-fn next_unit(s: unit_source::State, a: Adjustment, queue: &[u8], unit: &mut [u8]) -> Made {
+fn next_unit(
+    s: &mut unit_source::State,
+    a: Adjustment,
+    queue: &[u8],
+    unit: &mut [u8],
+) -> Result<u8, Refusal> {
     let k = least(2349, queue.len());
     unit_source::unit_source(s, a, &queue[..k], &queue[k..], unit)
 }
@@ -226,26 +228,24 @@ fn send_unit<P: Print>(
     queue: &mut [u8],
     unit: &mut [u8],
 ) -> Sources {
-    let state = q.units;
-    let made = next_unit(state, a, queue, unit);
-    let answer = made.answer;
-    match answer {
-        Answer::Refused(_) => {
+    let mut units = q.units;
+    match next_unit(&mut units, a, queue, unit) {
+        Err(x) => {
             bench_say::refused(
                 out,
                 b"unit refused ",
-                refusals::number(answer),
-                refusals::place(answer),
+                refusals::number(Err(x)),
+                refusals::place(Err(x)),
                 0,
             );
-            return q;
+            q
         }
-        Answer::Done => {}
+        Ok(ended) => {
+            say_unit(out, unit, ended, units.offset);
+            move_up(ended, queue);
+            after_unit(q, units, ended)
+        }
     }
-    let units = made.state;
-    say_unit(out, unit, made.ended, units.offset);
-    move_up(made.ended, queue);
-    after_unit(q, units, made.ended)
 }
 
 // `src`: the queue filled, and the next unit written.

@@ -19,10 +19,9 @@ use Rattle.refusals.proofs.Joined.{joined_refused, joined_done, joined_none}
 use Rattle.shape.specs.declared.Shape.{Shape}
 use Rattle.container.specs.Container.{payload_size, rows_of}
 use Rattle.container_source.specs.Overhead.{overhead_of}
-use Rattle.container_source.specs.Source.{send_faults, container_sent, container_source_after, SentOutcome, container_source, SendsAs, Sends}
+use Rattle.container_source.specs.Source.{send_faults, container_sent, container_source_after, Sent, SentOutcome, container_source, SendsAs, Sends}
 use Rattle.container_source.specs.declared.State.{State}
 use Rattle.container_source.specs.declared.Given.{Given}
-use Rattle.container_source.specs.declared.Sent.{Sent}
 
 -- no row of the table applies
 pub record Sendable (s : Shape) (place label : ℕ) (trace : List ℕ) (payload container violations : ℕ) : Type 0 where

@@ -1,5 +1,5 @@
 -- The container source: one call, as a function of all that it is given. 01, "Layouts" and "Refusal numbers".
-use Rattle.std.specs.Prelude.{◌≡◌, ℕ, ◌+◌, ◌%◌, not, List, [], ◌∷◌, ◌++◌, eqb, ltb, length, Ok, Err}
+use Rattle.std.specs.Prelude.{◌≡◌, ℕ, ◌+◌, ◌%◌, not, List, [], ◌∷◌, ◌++◌, eqb, ltb, length, Result, Ok, Err, ⊤}
 use Rattle.parity.specs.Parity.{parity_of}
 use Rattle.settings.specs.Faults.{path_faults}
 use Rattle.refusals.specs.Refusals.{Fault, answer_says, given, said_by, outcome}
@@ -10,7 +10,6 @@ use Rattle.container.specs.Container.{payload_size, container_of}
 use Rattle.container_source.specs.Overhead.{overhead_of}
 use Rattle.container_source.specs.declared.State.{State}
 use Rattle.container_source.specs.declared.Given.{Given}
-use Rattle.container_source.specs.declared.Sent.{Sent}
 
 -- "a fresh container source begins at the start byte"; B3 is "00 in a source's first"
 abbrev pub fresh_container_source : State
@@ -32,6 +31,11 @@ container_sent s state g trace payload = container_of s.columns (overhead_of sta
 -- the state after it: the next place in the message, and the parity of all its bytes, its own B3 among them
 unfoldable pub container_source_after : Shape → State → Given → List ℕ → List ℕ → State
 container_source_after s state g trace payload = record { place = (state.place + 1) % 16; parity = parity_of (container_sent s state g trace payload) }
+
+-- the answer, and the state from then on: the old one where the call was refused
+pub record Sent : Type 0 where
+  pub answer : Result ⊤ Refusal
+  pub state : State
 
 -- all that a call leaves: the answer with the state, and the container's bytes
 pub record SentOutcome : Type 0 where

@@ -37,13 +37,6 @@ pub struct Given {
     pub remote: bool,
 }
 
-// The answer, and the state from then on: the old one where the call was refused.
-#[derive(Clone, Copy)]
-pub struct Sent {
-    pub answer: Result<(), Refusal>,
-    pub state: State,
-}
-
 // A source that has sent nothing.
 pub fn fresh() -> State
     ensures { result ≡ fresh_container_source }
@@ -120,51 +113,42 @@ fn answer(
 // One container of any shape.
 fn send(
     shape: Shape,
-    s: State,
+    s: &mut State,
     g: Given,
     characters: &[u8; 15],
     payload: &[u8],
     container: &mut [u8],
-) -> Sent
-    ensures { SendsAs shape s g characters.now payload.now container.old result container.new }
+) -> Result<(), Refusal>
+    ensures { SendsAs shape s.old g characters.now payload.now container.old (record { answer = result; state = s.new }) container.new }
 {
     let t = *characters;
-    match answer(
+    let before = *s;
+    answer(
         shape,
-        s.place,
+        before.place,
         g.label,
         t,
         payload.len(),
         container.len(),
         g.violations,
-    ) {
-        Err(x) => {
-            return Sent {
-                answer: Err(x),
-                state: s,
-            };
-        }
-        Ok(()) => {}
-    }
-    let o = overhead(s, g, t);
+    )?;
+    let o = overhead(before, g, t);
     container::rows(shape.columns - 1, o, payload, container);
     let parity = parity::parity(container);
-    let place = (s.place + 1) % 16;
-    Sent {
-        answer: Ok(()),
-        state: State { place, parity },
-    }
+    let place = (before.place + 1) % 16;
+    *s = State { place, parity };
+    Ok(())
 }
 
-// The next VC-4 of a source: all 2349 bytes are written. Refuses 8, 4, 5, 2, 3, 6.
+// The next VC-4 of a source: all 2349 bytes are written, and its state is the one after it. Refuses 8, 4, 5, 2, 3, 6: then both are as they were.
 pub fn container_source(
-    s: State,
+    s: &mut State,
     g: Given,
     characters: &[u8; 15],
     payload: &[u8],
     container: &mut [u8],
-) -> Sent
-    ensures { Sends au4 s g characters.now payload.now container.old result container.new }
+) -> Result<(), Refusal>
+    ensures { Sends au4 s.old g characters.now payload.now container.old (record { answer = result; state = s.new }) container.new }
 {
     send(Shape::au4(), s, g, characters, payload, container)
 }

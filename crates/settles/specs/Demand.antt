@@ -16,17 +16,17 @@ use Rattle.overhead.specs.Labels.{fits}
 use Rattle.unit_end.specs.Settled.{none_stands}
 use Rattle.container_source.specs.Source as container-source
 use Rattle.container_source.specs.declared.State as container-source-state
-use Rattle.container_source.specs.declared.Sent.{Sent}
+use Rattle.container_source.specs.Source.{Sent}
 use Rattle.container_source_theorems.specs.Run as sending
 use Rattle.unit_source.specs.Source as unit-source
 use Rattle.unit_source.specs.declared.State as unit-source-state
-use Rattle.unit_source.specs.declared.Made.{Made}
+use Rattle.unit_source.specs.Source.{Made}
 use Rattle.unit_source_theorems.specs.Sending as stream
 use Rattle.settles_stream.specs.InOrder.{boxes, violated_told}
 use Rattle.settings.specs.declared.Settings.{Settings}
 use Rattle.sink.specs.Sink as sink
 use Rattle.sink.specs.declared.State as sink-state
-use Rattle.sink.specs.declared.Received.{Received}
+use Rattle.sink.specs.Sink.{Received}
 use Rattle.sink_theorems.specs.Reach as reach
 
 -- ---- the run

@@ -11,7 +11,7 @@ use Rattle.settings.proofs.Refuses.{settings_not_8, check_answer}
 use Rattle.refusals.specs.Refusals.{Fault, due, given, answer_of, answer_number, number_of}
 use Rattle.refusals.specs.declared.Refusal.{Refusal}
 use Rattle.refusals.specs.declared.Refusal.TheVariants as wrong
-use Rattle.std.specs.Prelude.{Ok, Err}
+use Rattle.std.specs.Prelude.{Result, Ok, Err, ⊤}
 use Rattle.refusals.proofs.Wrong.{outcome_by, outcome_answer}
 use Rattle.refusals.proofs.Joined.{joined_refused}
 use Rattle.shape.specs.Shape.{unit_length}
@@ -31,7 +31,7 @@ answer_is s state c = outcome_answer (λ (o : ReceivedOutcome). o.received.answe
 
 -- ---- a call is not both done and refused
 
-pub done_not_refused : (x : Refusal) → Ok tt ≡ Err x → ⊥
+pub done_not_refused : (x : Refusal) → ◌≡◌ {A = Result ⊤ Refusal} (Ok tt) (Err x) → ⊥
 done_not_refused x h = let z : ◌≡◌ {A = ℕ} 0 1 = cc in absurd (omega arith)
 
 -- ---- what is kept

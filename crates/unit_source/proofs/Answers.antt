@@ -15,10 +15,9 @@ use Rattle.std.specs.Prelude.{Result, Ok, Err, ⊤}
 use Rattle.shape.specs.Shape.{unit_length, offset_after, ended_by}
 use Rattle.shape.specs.declared.Shape.{Shape}
 use Rattle.shape.specs.declared.Adjustment.{Adjustment}
-use Rattle.unit_source.specs.Source.{adjusts, source_out_of_range, make_faults, unit_sent, source_wait_after, unit_source_after, MadeOutcome, unit_source, MakesAs, Makes}
+use Rattle.unit_source.specs.Source.{adjusts, source_out_of_range, make_faults, unit_sent, source_wait_after, unit_source_after, Made, made_by, MadeOutcome, unit_source, MakesAs, Makes}
 use Rattle.unit_source.specs.Inner.{Ready}
 use Rattle.unit_source.specs.declared.State.{State}
-use Rattle.unit_source.specs.declared.Made.{Made}
 
 -- ---- the order of the tests
 
@@ -108,13 +107,14 @@ module _ (s : Shape) (state : State) (a : Adjustment) (current next before : Lis
   pub made_ready : r ≡ Ok tt → Ready s state.offset (length current) (length next) (length before)
   made_ready h = (makable s state a (length current) (length next) (length before) (sym r-is ∙ h)).ready
 
-  pub made_refused : (x : Refusal) → r ≡ Err x → MakesAs s state a current next before (record { answer = Err x; ended = 0; state = state }) before
+  pub made_refused : (x : Refusal) → r ≡ Err x → MakesAs s state a current next before (made_by (Err x) state) before
+  unfolding made_by
   made_refused x h = sym (source_refused s state a current next before x (sym r-is ∙ h))
 
   pub made_done : (ended offset wait : ℕ) (after : List ℕ) → r ≡ Ok tt → ended ≡ ended_by a state.offset → offset ≡ offset_after s.top a state.offset → wait ≡ source_wait_after a state.wait
       → after ≡ unit_sent s a state.offset current next
-      → MakesAs s state a current next before (record { answer = Ok tt; ended = ended; state = record { offset = offset; wait = wait } }) after
-  unfolding unit_source_after
+      → MakesAs s state a current next before (made_by (Ok ended) (record { offset = offset; wait = wait })) after
+  unfolding unit_source_after made_by
   made_done ended offset wait after h e o w u = rw (e, o, w, u) (sym (source_done s state a current next before (sym r-is ∙ h)))
 
 -- each row has its case's number

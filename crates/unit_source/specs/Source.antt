@@ -1,5 +1,5 @@
 -- The unit source: one call, as a function of all that it is given. 01, "Layouts", "Reading one pointer word" (its last words, on adjustments) and "Refusal numbers".
-use Rattle.std.specs.Prelude.{◌≡◌, ℕ, ◌-◌, Bool, true, false, ◌&&◌, ◌||◌, not, List, [], ◌∷◌, ◌++◌, eqb, ltb, length, Ok, Err}
+use Rattle.std.specs.Prelude.{◌≡◌, ℕ, ◌-◌, Bool, true, false, ◌&&◌, ◌||◌, not, List, [], ◌∷◌, ◌++◌, eqb, ltb, length, Result, Ok, Err, ⊤}
 use Rattle.counts.specs.Counts.{more}
 use Rattle.word.specs.Word.{plain_word, inverted_word, bits_i, bits_d}
 use Rattle.refusals.specs.Refusals.{Fault, answer_says, given, said_by, outcome}
@@ -11,7 +11,6 @@ use Rattle.shape.specs.declared.Adjustment.{Adjustment}
 use Rattle.shape.specs.declared.Adjustment.TheVariants.{Nothing, Increment, Decrement}
 use Rattle.unit.specs.Unit.{head_of, run_of}
 use Rattle.unit_source.specs.declared.State.{State}
-use Rattle.unit_source.specs.declared.Made.{Made}
 
 -- "Fresh, it stands at offset 0, free to adjust"
 abbrev pub fresh_unit_source : State
@@ -63,6 +62,17 @@ unfoldable pub unit_source_after : Shape → Adjustment → State → State
 unit_source_after s a state = record { offset = offset_after s.top a state.offset; wait = source_wait_after a state.wait }
 
 -- ---- the call
+
+-- the answer; how many of the two containers ended, 0 where the call was refused; and the state from then on, the old one where it was
+pub record Made : Type 0 where
+  pub answer : Result ⊤ Refusal
+  pub ended : ℕ
+  pub state : State
+
+-- the same of what the function answers, how many ended or the refusal, and of the state that it leaves
+unfoldable pub made_by : Result ℕ Refusal → State → Made
+made_by (Ok n) state = record { answer = Ok tt; ended = n; state = state }
+made_by (Err x) state = record { answer = Err x; ended = 0; state = state }
 
 -- all that it leaves: the answer with the count and the state, and the unit's bytes
 pub record MadeOutcome : Type 0 where

@@ -5,7 +5,7 @@
 ghost use Rattle.std.specs.Prelude.{◌≡◌, length};
 ghost use Rattle.shape.specs.Shape.{au4};
 ghost use Rattle.refusals.specs.Refusals.{answer_of};
-ghost use Rattle.unit_source.specs.Source.{fresh_unit_source, adjusts, source_out_of_range, make_faults, word_sent, unit_sent, source_wait_after, MakesAs, Makes};
+ghost use Rattle.unit_source.specs.Source.{fresh_unit_source, adjusts, source_out_of_range, make_faults, word_sent, unit_sent, source_wait_after, made_by, MakesAs, Makes};
 ghost use Rattle.unit_source.specs.Inner.{Ready};
 
 use refusals::Refusal;
@@ -16,14 +16,6 @@ use shape::{Adjustment, Shape};
 pub struct State {
     pub offset: u16,
     pub wait: u8,
-}
-
-// The answer; how many of the two containers ended, 0 where the call was refused; and the state from then on, the old one where it was.
-#[derive(Clone, Copy)]
-pub struct Made {
-    pub answer: Result<(), Refusal>,
-    pub ended: u8,
-    pub state: State,
 }
 
 // A source that has sent nothing: at offset 0, free to adjust.
@@ -107,36 +99,36 @@ fn wait_after(a: Adjustment, wait: u8) -> u8
     }
 }
 
-// One unit of any shape, of the current container and the next.
-fn make(shape: Shape, s: State, a: Adjustment, current: &[u8], next: &[u8], unit: &mut [u8]) -> Made
-    ensures { MakesAs shape s a current.now next.now unit.old result unit.new }
+// One unit of any shape, of the current container and the next: how many of the two ended.
+fn make(
+    shape: Shape,
+    s: &mut State,
+    a: Adjustment,
+    current: &[u8],
+    next: &[u8],
+    unit: &mut [u8],
+) -> Result<u8, Refusal>
+    ensures { MakesAs shape s.old a current.now next.now unit.old (made_by result s.new) unit.new }
 {
-    match answer(shape, s, a, current.len(), next.len(), unit.len()) {
-        Err(x) => {
-            return Made {
-                answer: Err(x),
-                ended: 0,
-                state: s,
-            };
-        }
-        Ok(()) => {}
-    }
-    let offset = s.offset;
-    let wait = s.wait;
-    write(shape, a, offset, current, next, unit);
-    Made {
-        answer: Ok(()),
-        ended: a.ended_by(offset),
-        state: State {
-            offset: a.offset_after(shape.top, offset),
-            wait: wait_after(a, wait),
-        },
-    }
+    let before = *s;
+    answer(shape, before, a, current.len(), next.len(), unit.len())?;
+    write(shape, a, before.offset, current, next, unit);
+    let offset = a.offset_after(shape.top, before.offset);
+    let wait = wait_after(a, before.wait);
+    *s = State { offset, wait };
+    Ok(a.ended_by(before.offset))
 }
 
-// The next unit of an AU-4: all 2358 bytes are written. Refuses 8, 3, 1, 7.
-pub fn unit_source(s: State, a: Adjustment, current: &[u8], next: &[u8], unit: &mut [u8]) -> Made
-    ensures { Makes au4 s a current.now next.now unit.old result unit.new }
+// The next unit of an AU-4: all 2358 bytes are written, and the state is the one after it. Answers how many of the two containers ended. Refuses 8, 3, 1, 7: then unit and
+// state are as they were.
+pub fn unit_source(
+    s: &mut State,
+    a: Adjustment,
+    current: &[u8],
+    next: &[u8],
+    unit: &mut [u8],
+) -> Result<u8, Refusal>
+    ensures { Makes au4 s.old a current.now next.now unit.old (made_by result s.new) unit.new }
 {
     make(Shape::au4(), s, a, current, next, unit)
 }
