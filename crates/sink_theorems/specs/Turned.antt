@@ -1,5 +1,5 @@
 -- Bits turned over on the way, and lines that are stuck: 02, ask 5, "a stuck line in a cross-connect".
-use Rattle.std.specs.Prelude.{◌≡◌, Bool, true, false, cond, not, List, [], ◌∷◌, map, ℕ, ◌/◌, ◌%◌, ◌^◌, ◌<◌, length, get_or}
+use Rattle.std.specs.Prelude.{◌≡◌, Bool, false, cond, not, List, [], ◌∷◌, map, ℕ, ◌/◌, ◌%◌, ◌^◌, ◌<◌, length, get_or}
 use Rattle.std.specs.Int.Bits.{bit_xor}
 use Rattle.overhead.specs.Violations.{violated_of, kept_of}
 use Rattle.monitor.specs.Seeing.{seen_in}

@@ -74,7 +74,7 @@ module _ (s : Shape) (box : ℕ → List ℕ) where
       let m = length (box (x.number + 1)) in
       let range : source_out_of_range s.top x.state ≡ false = simp (le-ltb s.top x.state.offset h.offset_low, le-ltb 3 x.state.wait h.wait_low) in
       let both : (not (eqb l s.size) || not (eqb m s.size)) ≡ false = simp (eq-eqb l s.size (h.full x.number), eq-eqb m s.size (h.full (x.number + 1))) in
-      let r = wrong_adjustment s x.state a l m (length x.unit) (source_out_of_range s.top x.state) refl range both h.unit_is (adjusts a) refl e in
+      let r = wrong_adjustment s x.state a l m (length x.unit) (source_out_of_range s.top x.state) refl range both _ refl h.unit_is (adjusts a) refl e in
       ap (λ (o : MadeOutcome). is_done o.made.answer) (source_refused s x.state a (box x.number) (box (x.number + 1)) x.unit wrong.Adjustment (sym r))
 
   pub fine_after : (x : Sending) (a : Adjustment) → Fine s box x → (adjusts a && ltb x.state.wait 3) ≡ false → Fine s box (sending_after s box x a)
