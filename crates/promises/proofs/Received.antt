@@ -287,7 +287,7 @@ read_back o = record { answer = answered o.received.answer; state = o.received.s
 
 read_back_is : (a : Result Report Refusal) (state : State) (held done : List ℕ)
     → read_back (record { received = received_by a state; held = held; done = done }) ≡ record { answer = a; state = state; held = held; done = done }
-unfolding received_by refusing
+unfolding received_by refusing read_back
 read_back_is (Ok r) state held done = refl
 read_back_is (Err x) state held done = refl
 

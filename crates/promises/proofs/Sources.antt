@@ -119,7 +119,7 @@ pub record ContainerLeft : Type 0 where
   pub container : List ℕ
 
 -- the same, read back from what the promise speaks of
-container_read_back : container-left.SentOutcome → ContainerLeft
+abbrev container_read_back : container-left.SentOutcome → ContainerLeft
 container_read_back o = record { answer = o.sent.answer; state = o.sent.state; container = o.container }
 
 pub container_source_determined : Determines {O = ContainerLeft} 4 container-source.ps container-source.r container-source-promise.Post (λ κs r e. record { answer = r; state = e.0.now; container = e.1.1.1.1.0.now })
@@ -152,7 +152,7 @@ unit_read_back o = record { answer = answered o.made.answer; state = o.made.stat
     answered (Err x) = Err x
 
 unit_read_back_is : (a : Result ℕ Refusal) (state : between-units.State) (unit : List ℕ) → unit_read_back (record { made = unit_left.made_by a state; unit = unit }) ≡ record { answer = a; state = state; unit = unit }
-unfolding unit_left.made_by
+unfolding unit_left.made_by unit_read_back
 unit_read_back_is (Ok n) state unit = refl
 unit_read_back_is (Err x) state unit = refl
 
