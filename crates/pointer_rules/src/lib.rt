@@ -22,6 +22,7 @@ pub enum Taken {
 }
 
 // How many of the last words were alike, as far as 3, and their value; both 0 where there is no run.
+// Kept: two numbers and no Option, since C is handed them so (`Plain` of probe_sink).
 #[repr(C)]
 #[derive(Clone, Copy)]
 pub struct Run {

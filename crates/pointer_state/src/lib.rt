@@ -28,6 +28,7 @@ pub fn alarm(state: State) -> bool
 }
 
 // The offset of a normal state; 0 of any other.
+// Kept: a number and no Option, since `pointer_state::offset` promises 0 of any other state (`offset_of`).
 pub fn offset(state: State) -> u16
     ensures { result ≡ offset_of state }
 {

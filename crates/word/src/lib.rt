@@ -34,6 +34,7 @@ const KINDS: [Ndf; 16] = [
 ];
 
 // The places of the I bits and of the D bits.
+// Kept: numbers and no enum of the two, since `probe_adjusting_word` and `probe_inverted` ask for any places.
 pub const I_BITS: u16 = 0x2aa;
 
 pub const D_BITS: u16 = 0x155;
