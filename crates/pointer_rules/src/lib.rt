@@ -4,10 +4,11 @@
 #![tactic(auto)]
 
 ghost use Rattle.std.specs.Prelude.{◌≡◌};
-ghost use Rattle.pointer_rules.specs.Rules.{run_after, elsewhere, adjustment, in_normal, in_alarm_or_lost, by_state, taken_as, restarts, adjustment_of};
+ghost use Rattle.pointer_rules.specs.Rules.{run_after, adjustment, in_normal, by_state, taken_as, restarts, adjustment_of};
 
 use pointer_state::State;
 use shape::Adjustment;
+use word::Ndf;
 
 // How a word is taken, with the offset that it names or leads to. A resync is rule 3; a plain word changes nothing, in normal by rule 4 and in alarm or lost by rule 5.
 #[derive(Clone, Copy)]
@@ -21,6 +22,7 @@ pub enum Taken {
 }
 
 // How many of the last words were alike, as far as 3, and their value; both 0 where there is no run.
+// Kept: two numbers and no Option, since C is handed them so (`Plain` of probe_sink).
 #[repr(C)]
 #[derive(Clone, Copy)]
 pub struct Run {
@@ -32,24 +34,12 @@ pub struct Run {
 pub fn run_after(run: Run, top: u16, w: u16) -> Run
     ensures { result ≡ run_after run top w }
 {
-    if word::is_good(word::NORMAL, top, w) {
+    if word::is_good(Ndf::Normal, top, w) {
         let value = word::value(w);
-        return Run {
-            count: counts::run_on(run.value == value, run.count, 3),
-            value,
-        };
-    }
-    Run { count: 0, value: 0 }
-}
-
-// Whether the state is other than normal at the offset v.
-fn is_elsewhere(state: State, v: u16) -> bool
-    ensures { result ≡ elsewhere state v }
-{
-    match state {
-        State::Normal(offset) => v != offset,
-        State::Alarm => true,
-        State::Lost => true,
+        let count = counts::run_on(run.value == value, run.count, 3);
+        Run { count, value }
+    } else {
+        Run { count: 0, value: 0 }
     }
 }
 
@@ -59,51 +49,45 @@ fn adjust(top: u16, offset: u16, i: u32, d: u32) -> Taken
 {
     if (3 <= i) & (d <= 2) {
         let up = Adjustment::Increment.offset_after(top, offset);
-        return Taken::Adjusted(Adjustment::Increment, up);
-    }
-    if (3 <= d) & (i <= 2) {
+        Taken::Adjusted(Adjustment::Increment, up)
+    } else if (3 <= d) & (i <= 2) {
         let down = Adjustment::Decrement.offset_after(top, offset);
-        return Taken::Adjusted(Adjustment::Decrement, down);
+        Taken::Adjusted(Adjustment::Decrement, down)
+    } else {
+        Taken::Invalid
     }
-    Taken::Invalid
 }
 
 // Rules 4 and 6 in the normal state.
 fn take_normal(offset: u16, wait: u8, top: u16, w: u16) -> Taken
     ensures { result ≡ in_normal offset wait top w }
 {
-    if word::of_kind(word::NORMAL, w) {
-        if word::value(w) == offset {
-            return Taken::Plain;
-        }
-        if wait < 3 {
-            return Taken::Invalid;
-        }
+    if !word::of_kind(Ndf::Normal, w) {
+        Taken::Invalid
+    } else if word::value(w) == offset {
+        Taken::Plain
+    } else if wait < 3 {
+        Taken::Invalid
+    } else {
         let i = word::inverted_at(word::I_BITS, w, offset);
         let d = word::inverted_at(word::D_BITS, w, offset);
-        return adjust(top, offset, i, d);
+        adjust(top, offset, i, d)
     }
-    Taken::Invalid
 }
 
-// Rules 5 and 6 in alarm or lost.
-fn take_outside(top: u16, w: u16) -> Taken
-    ensures { result ≡ in_alarm_or_lost top w }
-{
-    if word::is_good(word::NORMAL, top, w) {
-        return Taken::Plain;
-    }
-    Taken::Invalid
-}
-
-// How a word is taken where rules 1 to 3 do not apply.
+// How a word is taken where rules 1 to 3 do not apply: rules 4 to 6, by the state.
 fn take_by_state(state: State, wait: u8, top: u16, w: u16) -> Taken
     ensures { result ≡ by_state state wait top w }
 {
     match state {
         State::Normal(offset) => take_normal(offset, wait, top, w),
-        State::Alarm => take_outside(top, w),
-        State::Lost => take_outside(top, w),
+        State::Alarm | State::Lost => {
+            if word::is_good(Ndf::Normal, top, w) {
+                Taken::Plain
+            } else {
+                Taken::Invalid
+            }
+        }
     }
 }
 
@@ -111,31 +95,23 @@ fn take_by_state(state: State, wait: u8, top: u16, w: u16) -> Taken
 pub fn take(state: State, alike: u8, wait: u8, top: u16, w: u16) -> Taken
     ensures { result ≡ taken_as state alike wait top w }
 {
-    if w == 0xffff {
-        return Taken::AlarmWord;
-    }
     let v = word::value(w);
-    if word::is_good(word::ENABLED, top, w) {
-        return Taken::NewData(v);
+    if w == 0xffff {
+        Taken::AlarmWord
+    } else if word::is_good(Ndf::Enabled, top, w) {
+        Taken::NewData(v)
+    } else if 3 <= alike && state != State::Normal(v) {
+        Taken::Resync(v)
+    } else {
+        take_by_state(state, wait, top, w)
     }
-    if (3 <= alike) & is_elsewhere(state, v) {
-        return Taken::Resync(v);
-    }
-    take_by_state(state, wait, top, w)
 }
 
 // Whether a word so taken drops the held bytes and the last parity.
 pub fn is_restart(t: Taken) -> bool
     ensures { result ≡ restarts t }
 {
-    match t {
-        Taken::AlarmWord => false,
-        Taken::NewData(_) => true,
-        Taken::Resync(_) => true,
-        Taken::Adjusted(_, _) => false,
-        Taken::Plain => false,
-        Taken::Invalid => false,
-    }
+    matches!(t, Taken::NewData(_) | Taken::Resync(_))
 }
 
 // What the unit of a word so taken does to the offset.
@@ -143,11 +119,7 @@ pub fn adjustment_of(t: Taken) -> Adjustment
     ensures { result ≡ adjustment_of t }
 {
     match t {
-        Taken::AlarmWord => Adjustment::Nothing,
-        Taken::NewData(_) => Adjustment::Nothing,
-        Taken::Resync(_) => Adjustment::Nothing,
         Taken::Adjusted(a, _) => a,
-        Taken::Plain => Adjustment::Nothing,
-        Taken::Invalid => Adjustment::Nothing,
+        _ => Adjustment::Nothing,
     }
 }

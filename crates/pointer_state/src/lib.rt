@@ -6,7 +6,7 @@ ghost use Rattle.std.specs.Prelude.{◌≡◌};
 ghost use Rattle.pointer_state.specs.State.{is_normal, is_alarm, offset_of, placed};
 
 // Normal with its offset, alarm or lost.
-#[derive(Clone, Copy)]
+#[derive(Clone, Copy, PartialEq, Eq)]
 pub enum State {
     Normal(u16),
     Alarm,
@@ -17,32 +17,24 @@ pub enum State {
 pub fn normal(state: State) -> bool
     ensures { result ≡ is_normal state }
 {
-    match state {
-        State::Normal(_) => true,
-        State::Alarm => false,
-        State::Lost => false,
-    }
+    matches!(state, State::Normal(_))
 }
 
 // Whether the state is alarm.
 pub fn alarm(state: State) -> bool
     ensures { result ≡ is_alarm state }
 {
-    match state {
-        State::Normal(_) => false,
-        State::Alarm => true,
-        State::Lost => false,
-    }
+    matches!(state, State::Alarm)
 }
 
 // The offset of a normal state; 0 of any other.
+// Kept: a number and no Option, since `pointer_state::offset` promises 0 of any other state (`offset_of`).
 pub fn offset(state: State) -> u16
     ensures { result ≡ offset_of state }
 {
     match state {
         State::Normal(v) => v,
-        State::Alarm => 0,
-        State::Lost => 0,
+        State::Alarm | State::Lost => 0,
     }
 }
 
@@ -52,7 +44,6 @@ pub fn is_placed(top: u16, state: State) -> bool
 {
     match state {
         State::Normal(v) => v <= top,
-        State::Alarm => true,
-        State::Lost => true,
+        State::Alarm | State::Lost => true,
     }
 }

@@ -15,6 +15,7 @@ use Rattle.text.specs.Inner.{Written}
 use Rattle.sheet_line.specs.declared.LineAnswer.{LineAnswer}
 use Rattle.importing.specs.declared.Imported.{Imported}
 use Rattle.exporting.specs.declared.Exported.{Exported}
+use Rattle.word.specs.declared.Ndf.{Ndf}
 use Rattle.records.specs.declared.Kind.{Kind}
 use Rattle.records.specs.declared.First.{First}
 use Rattle.records.specs.declared.PlaceList.{PlaceList}
@@ -232,7 +233,7 @@ word_h1_determined κs a x y s t p q = p ∙ sym q
 pub word_h2_determined : Determines {O = ℕ} 0 word-h2.ps word-h2.r word-h2-promise.Post (λ κs r e. r)
 word_h2_determined κs a x y s t p q = p ∙ sym q
 
-pub word_kind_determined : Determines {O = ℕ} 0 word-kind.ps word-kind.r word-kind-promise.Post (λ κs r e. r)
+pub word_kind_determined : Determines {O = Ndf} 0 word-kind.ps word-kind.r word-kind-promise.Post (λ κs r e. r)
 word_kind_determined κs a x y s t p q = p ∙ sym q
 
 pub word_ss_determined : Determines {O = ℕ} 0 word-ss.ps word-ss.r word-ss-promise.Post (λ κs r e. r)

@@ -4,31 +4,36 @@ use mathlib.Core.Path.{◌≡◌, refl}
 use mathlib.Core.Bool.{Bool, true, false, cond, ◌&&◌, not, false≢true}
 use Prim.Native.Nat.{ℕ, ◌-◌, ◌/◌, ◌≤◌, ◌<◌}
 use native.Mathlib.Omega.{arith}
-use borrow.Author.Tests.{eqb-true, leb-true, leb-false}
+use Prim.{tt}
+use denote.Enum.Bare.{sameb, same_true}
+use borrow.Author.Tests.{leb-true, leb-false}
 use lib.Bits.{bit_xor}
 use lib.Count.{ones, ones_in}
-use lib.Dec.{eqb, leb}
+use lib.Dec.{leb}
 use lib.ListN.{get_or}
 use Rattle.laws.proofs.Tables.{every, every_at}
-use Rattle.word.specs.Word.{neither, normal, enabled, kinds, kind_of}
+use Rattle.word.specs.declared.Ndf.{Ndf}
+use Rattle.word.specs.declared.Ndf.TheVariants.{Neither, Normal, Enabled}
+use Rattle.word.specs.contracts.Ndf.{the_type}
+use Rattle.word.specs.Word.{kinds, kind_of}
 
 -- how many of the four bits of a code are those of another
 pub agreeing : ℕ → ℕ → ℕ
 agreeing a b = 4 - ones (bit_xor a b)
 
 -- the kind k of the code c is the one that three of its bits say
-pub record Voted (c k : ℕ) : Type 0 where
-  pub normal_where : 3 ≤ agreeing c 6 → k ≡ normal
-  pub enabled_where : 3 ≤ agreeing c 9 → k ≡ enabled
-  pub neither_else : agreeing c 6 < 3 → agreeing c 9 < 3 → k ≡ neither
+pub record Voted (c : ℕ) (k : Ndf) : Type 0 where
+  pub normal_where : 3 ≤ agreeing c 6 → k ≡ Normal
+  pub enabled_where : 3 ≤ agreeing c 9 → k ≡ Enabled
+  pub neither_else : agreeing c 6 < 3 → agreeing c 9 < 3 → k ≡ Neither
   pub never_both : 3 ≤ agreeing c 6 → 3 ≤ agreeing c 9 → ⊥
 
 -- ---- the two tests that are computed over the table
 
-vote : Bool → Bool → ℕ
-vote six nine = cond six normal (cond nine enabled neither)
+vote : Bool → Bool → Ndf
+vote six nine = cond six Normal (cond nine Enabled Neither)
 
-voted : every 16 (λ c. eqb (get_or kinds c neither) (vote (leb 3 (agreeing c 6)) (leb 3 (agreeing c 9)))) ≡ true
+voted : every 16 (λ c. sameb the_type (get_or kinds c Neither) (vote (leb 3 (agreeing c 6)) (leb 3 (agreeing c 9)))) ≡ true
 unfolding vote agreeing ones ones_in
 voted = refl
 
@@ -39,7 +44,7 @@ apart = refl
 -- ---- the rule
 
 -- what the two tests answered for a code decides its kind
-from_votes : (c k : ℕ) (six nine : Bool) → leb 3 (agreeing c 6) ≡ six → leb 3 (agreeing c 9) ≡ nine → k ≡ vote six nine → not (six && nine) ≡ true → Voted c k
+from_votes : (c : ℕ) (k : Ndf) (six nine : Bool) → leb 3 (agreeing c 6) ≡ six → leb 3 (agreeing c 9) ≡ nine → k ≡ vote six nine → not (six && nine) ≡ true → Voted c k
 unfolding vote
 from_votes c k true true p q e a = absurd (false≢true a)
 from_votes c k true false p q e a =
@@ -60,7 +65,7 @@ unfolding kind_of
 kind_voted w h =
     let c = w / 4096 in
     let low : c < 16 = omega arith in
-    from_votes c (get_or kinds c neither) (leb 3 (agreeing c 6)) (leb 3 (agreeing c 9)) refl refl
-    (eqb-true (get_or kinds c neither) (vote (leb 3 (agreeing c 6)) (leb 3 (agreeing c 9)))
-    (every_at 16 (λ c. eqb (get_or kinds c neither) (vote (leb 3 (agreeing c 6)) (leb 3 (agreeing c 9)))) voted c low))
+    from_votes c (get_or kinds c Neither) (leb 3 (agreeing c 6)) (leb 3 (agreeing c 9)) refl refl
+    (same_true the_type tt (get_or kinds c Neither) (vote (leb 3 (agreeing c 6)) (leb 3 (agreeing c 9)))
+    (every_at 16 (λ c. sameb the_type (get_or kinds c Neither) (vote (leb 3 (agreeing c 6)) (leb 3 (agreeing c 9)))) voted c low))
     (every_at 16 (λ c. not (leb 3 (agreeing c 6) && leb 3 (agreeing c 9))) apart c low)

@@ -5,34 +5,36 @@
 ghost use Rattle.std.specs.Prelude.{◌≡◌};
 ghost use Rattle.word.specs.Word.{word_of, h1_of, h2_of, kind_of, ss_of, value_of, reading_of, of_kind, good, inverted, plain_word, inverted_word};
 
-// The kinds of NDF.
-pub const NEITHER: u8 = 0;
-
-pub const NORMAL: u8 = 1;
-
-pub const ENABLED: u8 = 2;
+// The kinds of NDF, the new data flag, by the numbers of the host's word reading.
+#[derive(Clone, Copy, PartialEq, Eq)]
+pub enum Ndf {
+    Neither = 0,
+    Normal = 1,
+    Enabled = 2,
+}
 
 // From the four NDF bits to the kind: 01's sixteen-entry table.
-const KINDS: [u8; 16] = [
-    NEITHER, // 0000
-    ENABLED, // 0001
-    NORMAL, // 0010
-    NEITHER, // 0011
-    NORMAL, // 0100
-    NEITHER, // 0101
-    NORMAL, // 0110
-    NORMAL, // 0111
-    ENABLED, // 1000
-    ENABLED, // 1001
-    NEITHER, // 1010
-    ENABLED, // 1011
-    NEITHER, // 1100
-    ENABLED, // 1101
-    NORMAL, // 1110
-    NEITHER, // 1111
+const KINDS: [Ndf; 16] = [
+    Ndf::Neither, // 0000
+    Ndf::Enabled, // 0001
+    Ndf::Normal, // 0010
+    Ndf::Neither, // 0011
+    Ndf::Normal, // 0100
+    Ndf::Neither, // 0101
+    Ndf::Normal, // 0110
+    Ndf::Normal, // 0111
+    Ndf::Enabled, // 1000
+    Ndf::Enabled, // 1001
+    Ndf::Neither, // 1010
+    Ndf::Enabled, // 1011
+    Ndf::Neither, // 1100
+    Ndf::Enabled, // 1101
+    Ndf::Normal, // 1110
+    Ndf::Neither, // 1111
 ];
 
 // The places of the I bits and of the D bits.
+// Kept: numbers and no enum of the two, since `probe_adjusting_word` and `probe_inverted` ask for any places.
 pub const I_BITS: u16 = 0x2aa;
 
 pub const D_BITS: u16 = 0x155;
@@ -41,35 +43,28 @@ pub const D_BITS: u16 = 0x155;
 pub fn of(h1: u8, h2: u8) -> u16
     ensures { result ≡ word_of h1 h2 }
 {
-    h1 as u16 * 256 + h2 as u16
+    u16::from_be_bytes([h1, h2])
 }
 
 // The byte H1 of a word.
 pub fn h1(w: u16) -> u8
     ensures { result ≡ h1_of w }
 {
-    (w / 256) as u8
+    w.to_be_bytes()[0]
 }
 
 // The byte H2 of a word.
 pub fn h2(w: u16) -> u8
     ensures { result ≡ h2_of w }
 {
-    (w % 256) as u8
-}
-
-fn wide(x: u8) -> u16
-    ensures { result ≡ x }
-{
-    x as u16
+    w.to_be_bytes()[1]
 }
 
 // The kind of a word's NDF bits.
-pub fn kind(w: u16) -> u8
+pub fn kind(w: u16) -> Ndf
     ensures { result ≡ kind_of w }
 {
-    let code = (w / 4096) as usize;
-    KINDS[code]
+    KINDS[usize::from(w / 4096)]
 }
 
 // A word's SS bits.
@@ -90,32 +85,32 @@ pub fn value(w: u16) -> u16
 pub fn reading(s: &[u8]) -> u16
     ensures { result ≡ reading_of s.now }
 {
-    if s.len() != 2 {
+    let [h1, h2] = *s else {
         return 0;
-    }
-    let w = of(s[0], s[1]);
-    4096 * wide(kind(w)) + 1024 * ss(w) + value(w)
+    };
+    let w = of(h1, h2);
+    4096 * kind(w) as u16 + 1024 * ss(w) + value(w)
 }
 
 // Whether a word has NDF of the kind k and SS 10.
-pub fn of_kind(k: u8, w: u16) -> bool
+pub fn of_kind(k: Ndf, w: u16) -> bool
     ensures { result ≡ of_kind k w }
 {
-    (kind(w) == k) & (ss(w) == 2)
+    kind(w) == k && ss(w) == 2
 }
 
 // Whether a word has NDF of the kind k, SS 10 and a value of at most `top`.
-pub fn is_good(k: u8, top: u16, w: u16) -> bool
+pub fn is_good(k: Ndf, top: u16, w: u16) -> bool
     ensures { result ≡ good k top w }
 {
-    of_kind(k, w) & (value(w) <= top)
+    of_kind(k, w) && value(w) <= top
 }
 
 // How many of a word's value bits, at the places m, are inverted against the offset.
 pub fn inverted_at(m: u16, w: u16, offset: u16) -> u32
     ensures { result ≡ inverted m w offset }
 {
-    u16::count_ones((value(w) ^ offset) & m)
+    ((value(w) ^ offset) & m).count_ones()
 }
 
 // The word that the source writes for a value, of which it takes the ten bits.

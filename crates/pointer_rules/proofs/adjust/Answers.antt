@@ -8,5 +8,5 @@ returns-then-i-d c = search adjusts_up
 pub returns-then-d-i : goal.returns-then-d-i
 returns-then-d-i c = search adjusts_down
 
-pub returns : goal.returns
-returns c = search adjusts_neither
+pub returns-else-d-i : goal.returns-else-d-i
+returns-else-d-i c = search adjusts_neither

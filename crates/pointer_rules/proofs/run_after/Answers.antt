@@ -5,5 +5,5 @@ use Rattle.pointer_rules.proofs.run_after.Goals as goal
 pub returns-then-is_good : goal.returns-then-is_good
 returns-then-is_good c = search run_goes_on
 
-pub returns : goal.returns
-returns c = search run_ends
+pub returns-else-is_good : goal.returns-else-is_good
+returns-else-is_good c = search run_ends

