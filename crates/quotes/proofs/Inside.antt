@@ -8,7 +8,8 @@ use lib.ListN.{length, take, drop, length-drop}
 use lib.Seq.{take_all, length-take-le}
 use Rattle.text.specs.Inner.{Written}
 use Rattle.text.proofs.Pieces.{written_none, written_then}
-use Rattle.quotes.specs.Quotes.{in_quotes, Closes, Says}
+use Rattle.quotes.specs.Quotes.{in_quotes}
+use Rattle.quotes.specs.Inner.{Closes, Says}
 use Rattle.quotes.proofs.Laws.{said_in, closes_in}
 
 -- ---- the characters, written

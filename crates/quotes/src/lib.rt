@@ -3,7 +3,8 @@
 
 ghost use Rattle.std.specs.Prelude.{◌≡◌, false, [], ◌∷◌, ◌+◌, ◌*◌, ◌≤◌, length, MatchOption};
 ghost use Rattle.text.specs.Inner.{Written};
-ghost use Rattle.quotes.specs.Quotes.{in_quotes, behind_quotes, doubled, Closes, Says};
+ghost use Rattle.quotes.specs.Quotes.{in_quotes, behind_quotes, doubled};
+ghost use Rattle.quotes.specs.Inner.{Closes, Says};
 
 const QUOTE: u8 = 0x22;
 
