@@ -78,6 +78,7 @@ pub fn trace_check(s: &[u8]) -> bool
 
 // Whether two traces are the same, byte for byte and as long: a trailing space is a byte like any other.
 // Every byte is looked at, with no way out of the loop, so that the compiler can take many at a time.
+// Kept: with `x == y` the check of a catalogue of 512 records takes 3.0 times as long (1252 ns a record for 415), and the sink 1.08.
 pub fn same(x: &[u8], y: &[u8]) -> bool
     ensures { result ≡ alike x.now y.now }
 {

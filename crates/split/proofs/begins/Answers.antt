@@ -1,7 +1,7 @@
 -- `split::begins` meets its contract. Assumes nothing.
-use Rattle.std.proofs.Common.{rules}
-use Rattle.split.proofs.Laws.{opens_with}
+use mathlib.Core.Path.{refl, ◌∙◌}
+use Rattle.split.proofs.Laws.{opens_first}
 use Rattle.split.proofs.begins.Goals as goal
 
 pub returns : goal.returns
-returns c = search (rules, opens_with)
+returns c = c.eq.ensures ∙ opens_first c.args.s.now c.args.b c.first.result _ refl c.first.ensures.value
