@@ -1,11 +1,12 @@
 -- One turn of each loop, and each way out. Assumes nothing.
 use mathlib.Core.Path.{◌≡◌, refl, sym, ap, ◌∙◌}
-use mathlib.Core.Bool.{Bool, true, false, ◌&&◌}
+use mathlib.Core.Bool.{Bool, false, ◌&&◌}
 use mathlib.Core.List.{List, [], ◌∷◌}
 use Prim.Native.Nat.{ℕ, suc, ◌+◌, ◌-◌, ◌*◌, ◌<◌, ◌≤◌}
 use native.Mathlib.Numerals.{add-one}
 use native.Mathlib.Omega.{arith}
-use borrow.Author.Tests.{eq-eqb, ne_eqb, lt-ltb, le-ltb, ltb-true}
+use borrow.Author.Tests.{eq-eqb, ne_eqb, ltb-true}
+use Rattle.std.specs.List.{list_all}
 use lib.ListN.{length, take, drop, get_or, drop_of_length-le}
 use lib.Seq.{drop-cons, take_all}
 use lib.Bits.{xor_lt}
@@ -34,18 +35,11 @@ bytes_end s i r p h e = rw drop_of_length-le at e
 
 -- ---- top bits
 
-module _ (s : List ℕ) (i : ℕ) (p : Bool) where
-  pub clear_turn : i < length s → get_or s i 0 < 0x80 → top_bits_clear (drop i s) ≡ p → top_bits_clear (drop (i + 1) s) ≡ p
-  unfolding top_bits_clear
-  clear_turn h q e = rw add-one (rw (drop-cons s i 0 h, lt-ltb (get_or s i 0) 0x80 q) at e)
-
-  pub clear_not : i < length s → 0x80 ≤ get_or s i 0 → top_bits_clear (drop i s) ≡ p → false ≡ p
-  unfolding top_bits_clear
-  clear_not h q e = rw (drop-cons s i 0 h, le-ltb (get_or s i 0) 0x80 q) at e
-
-  pub clear_end : length s ≤ i → top_bits_clear (drop i s) ≡ p → true ≡ p
-  unfolding top_bits_clear
-  clear_end h e = rw drop_of_length-le at e
+-- the test of each character is the definition
+pub clear_each : (s : List ℕ) → list_all (λ b. ltb b 0x80) s ≡ top_bits_clear s
+unfolding top_bits_clear
+clear_each [] = refl
+clear_each (b ∷ s) = ap (λ (p : Bool). ltb b 0x80 && p) (clear_each s)
 
 -- ---- two traces
 

@@ -1,9 +1,7 @@
 -- `split::begins` meets its contract. Assumes nothing.
-use Rattle.split.proofs.Laws.{opens_none, opens_some}
+use mathlib.Core.Path.{refl, ◌∙◌}
+use Rattle.split.proofs.Laws.{opens_first}
 use Rattle.split.proofs.begins.Goals as goal
 
-pub returns-then-s-eq0 : goal.returns-then-s-eq0
-returns-then-s-eq0 c = search opens_none
-
 pub returns : goal.returns
-returns c = search (opens_some, c.if-s-eq0.false)
+returns c = c.eq.ensures ∙ opens_first c.args.s.now c.args.b c.first.result _ refl c.first.ensures.value
