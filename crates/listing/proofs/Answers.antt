@@ -10,7 +10,7 @@ use Rattle.text.specs.Inner.{Written, Within}
 use Rattle.text.proofs.Pieces.{written_then}
 use Rattle.catalogue.specs.Catalogue.{Checks}
 use Rattle.records.specs.Record.{old_kind, most_records}
-use Rattle.records.proofs.Places.{old_serves}
+use Rattle.records.proofs.Fields.{old_serves}
 use Rattle.records.specs.declared.Kind.{Kind}
 use Rattle.records.specs.declared.Refusal.{Refusal}
 use Rattle.catalogue.specs.declared.Checked.TheVariants.{Good, Refused}

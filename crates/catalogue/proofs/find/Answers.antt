@@ -1,6 +1,6 @@
 -- `catalogue::find` meets its contract: no record before m has the number, so those from m on decide. Assumes nothing.
 use native.Mathlib.Omega.{arith}
-use Rattle.records.proofs.Places.{record_within}
+use Rattle.records.proofs.Fields.{record_within}
 use Rattle.catalogue.proofs.Scan.{find_start, find_hit, find_turn, find_end}
 use Rattle.catalogue.proofs.find.Goals as goal
 

@@ -1,6 +1,6 @@
 -- `catalogue::first_fault` meets its contract: nothing is wrong with the records before k, so those from k on decide. Assumes nothing.
 use native.Mathlib.Omega.{arith}
-use Rattle.records.proofs.Places.{record_within}
+use Rattle.records.proofs.Fields.{record_within}
 use Rattle.catalogue.proofs.Scan.{faults_start, fault_hit, fault_turn, fault_end}
 use Rattle.catalogue.proofs.first_fault.Goals as goal
 

@@ -1,5 +1,5 @@
 -- `catalogue::lookup` meets its contract: what it answers is that of the kind that 01 has. Assumes nothing.
-use Rattle.records.proofs.Places.{old_serves}
+use Rattle.records.proofs.Fields.{old_serves}
 use Rattle.catalogue.proofs.Answers.{checked_as_lem, looks_up_as}
 use Rattle.catalogue.proofs.lookup.Goals as goal
 

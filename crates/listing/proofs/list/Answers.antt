@@ -1,5 +1,5 @@
 -- `listing::list` meets its contract: the buffer has room for a good catalogue of 512 records, and for a refusal. Assumes nothing.
-use Rattle.records.proofs.Places.{old_serves}
+use Rattle.records.proofs.Fields.{old_serves}
 use Rattle.listing.proofs.Answers.{good_records, good_room, good_listed, refused_listed}
 use Rattle.listing.proofs.list.Goals as goal
 

@@ -1,6 +1,6 @@
 -- `pairs::first_repeat` meets its contract: no pair compared so far has one trace, so those still to come decide, and their number is added. Assumes nothing.
 use native.Mathlib.Omega.{arith}
-use Rattle.records.proofs.Places.{record_within}
+use Rattle.records.proofs.Fields.{record_within}
 use Rattle.pairs.proofs.Scan.{between, left_start, left_later, left_turn, left_hit, left_next, left_end}
 use Rattle.pairs.proofs.first_repeat.Goals as goal
 

@@ -1,7 +1,7 @@
 -- `record_line::lines` meets its contract: after k turns the lines of the first k records are written. Assumes nothing.
 use mathlib.Core.Path.{refl}
 use native.Mathlib.Omega.{arith}
-use Rattle.records.proofs.Places.{record_within}
+use Rattle.records.proofs.Fields.{record_within}
 use Rattle.record_line.proofs.Rows.{lines_none, line_room, lines_turn, lines_end}
 use Rattle.record_line.proofs.lines.Goals as goal
 
