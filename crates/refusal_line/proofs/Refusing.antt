@@ -27,16 +27,15 @@ module _ (b m : List ℕ) (at i p : ℕ) (h : at + 21 ≤ length b) (w : Written
 
 -- two, or more, which no refusal names
 all_of : (p : PlaceList) → 2 ≤ p.count → places_in p ≡ p.first ∷ p.second ∷ []
-unfolding places_in
 all_of p h = take_all p.count (p.first ∷ p.second ∷ []) h
 
 module _ (b : List ℕ) (p : PlaceList) (at : ℕ) where
   pub places_none : p.count ≡ 0 → Within 42 at (blank_before (places_in p)) b b at
-  unfolding blank_before places_in
+  unfolding blank_before
   places_none e = rw e (within 42 (written_none at b) (omega arith))
 
   pub places_one : (a : List ℕ) (n : ℕ) → p.count ≡ 1 → Within 21 at (0x20 ∷ decimal_of p.first) b a n → Within 42 at (blank_before (places_in p)) b a n
-  unfolding blank_before places_in
+  unfolding blank_before
   places_one a n e w = rw (e, append-nil) (record { written = w.written; short = omega arith })
 
   pub places_two : (m a : List ℕ) (i n : ℕ) → (p.count ≡ 0 → ⊥) → (p.count ≡ 1 → ⊥) → at + 42 ≤ length b

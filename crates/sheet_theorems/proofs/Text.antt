@@ -44,7 +44,6 @@ trace_lacks t e = by_characters (λ (bs : List ℕ). lacks lf (doubled bs) ≡ t
     go false b bs h i = lacks_cons lf b (doubled bs) (λ q. omega arith) i
 
 small : (r : List ℕ) → Fair r → label_in r < 256
-unfolding label_in
 small r f = f.label
 
 line_lacks : (r : List ℕ) → Fair r → lacks lf (line_of sheet_form r) ≡ true
