@@ -5,7 +5,7 @@ use mathlib.Core.List.{List, [], ◌∷◌}
 use Prim.Native.Nat.{ℕ, ◌+◌, ◌*◌, ◌%◌}
 use borrow.Author.Tests.{eq-eqb}
 use lib.Dec.{eqb}
-use lib.ListN.{length}
+use lib.ListN.{length, get_or}
 use Rattle.std.specs.Prelude.{Result}
 use Rattle.records.specs.declared.Places.{Places}
 use Rattle.records.specs.Refusals.{places_given, places_in}
@@ -21,6 +21,11 @@ use Rattle.sheet_refusals.specs.declared.Refusal as importing-refusal
 use Rattle.exporting.specs.Export.{export_of, export_answer, Exports}
 
 -- ---- a refusal, of number n and places p: r is what was packed
+
+-- f are the places as numbers
+pub packed_of : (number n : ℕ) (places : List ℕ) (f : ℕ × ℕ) → n ≡ number → f ≡ (get_or places 0 0, get_or places 1 0) → n * 4294967296 + f.0 % 65536 * 65536 + f.1 % 65536 ≡ packed_at number places
+unfolding packed_at
+packed_of number n places f is-n is-f = rw (is-n, is-f)
 
 -- both places are kept, and no more were packed
 given_at : (number : ℕ) (places : List ℕ) → packed_at number (places_in (places_given places)) ≡ packed_at number places
