@@ -64,8 +64,8 @@ TRIALS = [
             "sink::fresh", "sink_fresh_determined", "`r.total`"),
     theorem("Determined", "text-hex-promise.Post (λ κs r e. record { answer = r; buffer = e.0.now })", "text-hex-promise.Post (λ κs r e. e.0.now)",
             "text::hex", "the answer, `r`,", "text_hex_determined"),
-    theorem("Determined", "records-trace-promise.Post (λ κs r e. r.now)", "records-trace-promise.Post (λ κs r e. a)",
-            "records::trace", "records_trace_determined", "`a`"),
+    theorem("Determined", "records-record-trace-promise.Post (λ κs r e. r.now)", "records-record-trace-promise.Post (λ κs r e. a)",
+            "records::Record::trace", "records_record_trace_determined", "`a`"),
     # a buffer left out; read at another's place; twice, and the other not; two of them run together
     theorem("Received", f"record {{ received = r; held = {HELD}; done = {DONE} }}", f"record {{ received = r; held = {HELD} }}",
             "sink::sink", f"what `done` has at exit, `{DONE}`,", "sink_determined"),

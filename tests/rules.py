@@ -373,7 +373,8 @@ def check_complete(standing, ruled, faults):
     for stray in names.strays():
         faults.add(None, stray)
     for name, place in names.public_functions().items():
-        crate, _, own = name.partition("::")
+        crate, *own = name.lower().split("::")
+        own = "_".join(own)
         if name.split("::")[0] in TESTS:
             continue
         if name not in standing:

@@ -1,6 +1,6 @@
 -- A further kind of record serves as 01's does: what is proved over a kind holds of it too. Assumes nothing.
 use native.Mathlib.Omega.{arith}
-use Rattle.records.specs.Inner.{Serves}
+use Rattle.records.specs.Fits.{Serves}
 use Rattle.records.specs.declared.Kind.{Kind}
 
 pub longer_serves : Serves 24

@@ -10,7 +10,7 @@ use Rattle.refusals.specs.Refusals.{due, rows_at, said_by}
 use Rattle.settings.specs.Settings.{label_refused, below, above, all_spaces, characters_from, trace_faults}
 use Rattle.trace_message.specs.Message.{alike}
 use Rattle.text.specs.Text.{decimal_in, decimal_of, hex_digit}
-use Rattle.records.specs.Record.{record_at, marked, circuit_in, label_in, trace_in, flags_in, circuit_refused, flags_refused}
+use Rattle.records.specs.Record.{record_at, marked, circuit_in, trace_in, circuit_refused, flags_refused}
 use Rattle.records.specs.Faults.{record_faults}
 use Rattle.pairs.specs.Pairs as pairs
 use Rattle.catalogue.specs.Catalogue as catalogue

@@ -1,4 +1,4 @@
--- What every kind of record meets. No rule of 01 stands here, and no promise of the catalogue's calls cites it.
+-- What every kind of record meets: its records hold the fields, and a file of them is not too long. Every `records::Kind` has this proof with it.
 use Rattle.std.specs.Prelude.{ℕ, ◌*◌, ◌≤◌, ◌<◌}
 use Rattle.std.proofs.Common.{lit≤, lit<}
 
