@@ -102,8 +102,8 @@ TRIALS = [
     Trial("crates/word/src/lib.rt", "pub fn ss(w: u16) -> u16", "pub fn ss(w: Held<'a>) -> u16", [PROMISES], ["word::ss", "Held<'a>"]),
     # public functions: one in a place of its own, with no row; methods; those of modules; words between
     public("parity/src/lib.rt", "\npub fn peek(s: &[u8]) -> u8 {\n    0\n}\n", "parity::peek", "stands in no"),
-    public("cut/src/lib.rt", "\nimpl Cut {\n    pub fn peek(self) -> u8 {\n        0\n    }\n}\n", "`pub fn peek`"),
-    public("copier/src/lib.rt", "\nimpl Cut {\npub fn peek(self) -> u8 {\n0\n}\n}\n", "`pub fn peek`"),
+    public("cut/src/lib.rt", "\nimpl Cut {\n    pub fn peek(self) -> u8 {\n        0\n    }\n}\n", "cut::Cut::peek", "stands in no"),
+    public("copier/src/lib.rt", "\nimpl Cut {\npub fn peek(self) -> u8 {\n0\n}\n}\n", "copier::Cut::peek", "stands in no"),
     public("unit_end/src/lib.rt", "\nmod inner {\n    pub fn peek() -> u8 {\n        b'{'\n    }\n}\n", "`pub fn peek`"),
     public("trace_message/src/lib.rt", "\npub(crate) fn peek() {}\n", "`pub(crate) fn peek`"),
     public("word/src/lib.rt", "\npub(in crate::inner) fn peek() {}\n", "`pub(in crate::inner) fn peek`"),
