@@ -8,6 +8,8 @@ use borrow.Fn.Kinds.{Out, ended_of, ParamKind, ResultKind, Dens, res_t}
 use contract.Lifetimes.{Lfts}
 use denote.Triple.Clauses.{AtExit}
 use Rattle.std.specs.Prelude.{Result, ⊤}
+use Rattle.refusals.specs.declared.Refusal.{Refusal}
+use Rattle.refusals.specs.declared.TraceFault.{TraceFault}
 use Rattle.settings.specs.declared.Flags.{Flags}
 use Rattle.text.specs.Inner.{Written}
 use Rattle.sheet_line.specs.declared.LineFault.{LineFault}

@@ -1,8 +1,8 @@
--- `sheet_line::trace` meets its contract: the characters, and then spaces. Assumes nothing.
+-- `sheet_line::Line::trace` meets its contract: the characters, and then spaces. Assumes nothing.
 use Rattle.sheet_line.proofs.Writing.{trace_few, trace_room, spaces_asked, trace_written}
 use lib.ListN.{length-take, length-replicate}
 use native.Mathlib.Omega.{arith}
-use Rattle.sheet_line.proofs.trace.Goals as goal
+use Rattle.sheet_line.proofs.Line.trace.Goals as goal
 
 pub characters-a-requires : goal.characters-a-requires
 characters-a-requires c = search trace_room

@@ -1,8 +1,8 @@
--- `sheet_line::front` meets its contract: four pieces in a row. Assumes nothing.
+-- `sheet_line::Line::front` meets its contract: four pieces in a row. Assumes nothing.
 use Rattle.sheet_line.proofs.Writing.{value_few, value_digits, value_small, label_asked, front_written}
 use Prim.Native.Nat.{◌<◌}
 use native.Mathlib.Omega.{arith}
-use Rattle.sheet_line.proofs.front.Goals as goal
+use Rattle.sheet_line.proofs.Line.front.Goals as goal
 
 pub value-v-requires : goal.value-v-requires
 value-v-requires c = (search value_few, search value_digits)

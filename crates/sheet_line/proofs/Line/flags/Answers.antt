@@ -1,8 +1,8 @@
--- `sheet_line::flags` meets its contract: two digits are below 100. Assumes nothing.
+-- `sheet_line::Line::flags` meets its contract: two digits are below 100. Assumes nothing.
 use native.Mathlib.Omega.{arith}
 use Rattle.sheet_line.proofs.Writing.{flags_few, flags_digits, flags_small, flags_of}
 use Prim.Native.Nat.{◌<◌}
-use Rattle.sheet_line.proofs.flags.Goals as goal
+use Rattle.sheet_line.proofs.Line.flags.Goals as goal
 
 pub value-requires : goal.value-requires
 value-requires c = (search flags_few, search flags_digits)
