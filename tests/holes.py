@@ -64,8 +64,8 @@ TRIALS = [
             "sink::fresh", "sink_fresh_determined", "`r.total`"),
     theorem("Determined", "text-hex-promise.Post (λ κs r e. record { answer = r; buffer = e.0.now })", "text-hex-promise.Post (λ κs r e. e.0.now)",
             "text::hex", "the answer, `r`,", "text_hex_determined"),
-    theorem("Determined", "records-trace-promise.Post (λ κs r e. r.now)", "records-trace-promise.Post (λ κs r e. a)",
-            "records::trace", "records_trace_determined", "`a`"),
+    theorem("Determined", "records-record-trace-promise.Post (λ κs r e. r.now)", "records-record-trace-promise.Post (λ κs r e. a)",
+            "records::Record::trace", "records_record_trace_determined", "`a`"),
     # a buffer left out; read at another's place; twice, and the other not; two of them run together
     theorem("Received", f"record {{ answer = r; state = e.0.now; held = {HELD}; done = {DONE} }}", f"record {{ answer = r; state = e.0.now; held = {HELD} }}",
             "sink::sink", f"what `done` has at exit, `{DONE}`,", "sink_determined"),
@@ -103,7 +103,7 @@ TRIALS = [
     # public functions: one in a place of its own, with no row; methods; those of modules; words between
     public("parity/src/lib.rt", "\npub fn peek(s: &[u8]) -> u8 {\n    0\n}\n", "parity::peek", "stands in no"),
     public("cut/src/lib.rt", "\nimpl Cut {\n    pub fn peek(self) -> u8 {\n        0\n    }\n}\n", "cut::Cut::peek", "stands in no"),
-    public("copier/src/lib.rt", "\nimpl Cut {\npub fn peek(self) -> u8 {\n0\n}\n}\n", "`pub fn peek`"),
+    public("copier/src/lib.rt", "\nimpl Cut {\npub fn peek(self) -> u8 {\n0\n}\n}\n", "copier::Cut::peek", "stands in no"),
     public("unit_end/src/lib.rt", "\nmod inner {\n    pub fn peek() -> u8 {\n        b'{'\n    }\n}\n", "`pub fn peek`"),
     public("trace_message/src/lib.rt", "\npub(crate) fn peek() {}\n", "`pub(crate) fn peek`"),
     public("word/src/lib.rt", "\npub(in crate::inner) fn peek() {}\n", "`pub(in crate::inner) fn peek`"),

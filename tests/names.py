@@ -5,9 +5,9 @@ Usage: names.py functions|items|definitions|theorems|parts|edits|cases|cited    
 
 As a module, each of these answers with a dictionary in the order of the files:
 
-    public_functions()   `crate::name`            -> Place     a library's `pub fn` and `pub extern "C" fn`; a program has none. A method is `crate::Type::name`
+    public_functions()   `crate::name`            -> Place     a library's `pub fn` and `pub extern "C" fn`; a program has none. A method is `crate::Type::name`, here and below
     signatures()         `crate::name`            -> its parameters, each a name and a type, and its result; of the public functions
-    items()              `crate::name`            -> Place     every function, constant, struct and enum, private ones too; of a module `crate::module::name`, a method `crate::Type::name`
+    items()              `crate::name`            -> Place     every function, constant, struct and enum, private ones too; of a module `crate::module::name`
     definitions()        `crate/File.name`        -> Place     the top-level names of crates/*/specs/*.antt
     theorems()           `crate/proofs/File.name` -> Place     those of crates/*/proofs/*.antt, but not of what proves one function, proofs/FUNCTION/*.antt
     parts()              either, `.part` behind   -> Place     a record's fields and a data type's cases, in specs and proofs
@@ -22,7 +22,7 @@ As a module, each of these answers with a dictionary in the order of the files:
     types_named()        definition               -> the structs and enums, `crate::Name`, that its own text names
     groups()             crates.txt: the headings, each with its crates, each with those that it rests on
     exports()            the static libraries, `card_c` -> `card`: each does nothing but export the functions of that library to C
-    strays()             faults: whatever else is public and a function in a library, where no page could name it; a crate that rests on a program's part;
+    strays()             faults: whatever else is public and a function in a library, as in a module, where no page could name it; a crate that rests on a program's part;
                          a static library whose exports are not its library's functions by name, parameters, answer, clauses and what these words mean, each a call of its function
 
 A Place is a file, from the repository's root, a line, and whether the name is public there. A fault of the text that stops the reading
@@ -209,13 +209,12 @@ def parts():
 
 # ---- rt: public functions and what they cite
 
-FUNCTION = re.compile(r'^(?P<public>pub )?(?:extern "C" )?fn (?P<name>\w+)', re.M)
-ITEM = re.compile(r'^(?P<public>pub )?(?:(?:extern "C" )?fn|const|struct|enum) (?P<name>\w+)', re.M)
-# what is a type's own stands in an `impl` of it, at a line's start; its methods four blanks in
-IMPL = re.compile(r"^impl(?:<[^>{]*>)? (?P<type>\w+)(?:<[^>{]*>)? \{", re.M)
-METHOD = re.compile(r"^    (?P<public>pub )?fn (?P<name>\w+)", re.M)
-SELF = re.compile(r"(?P<lent>&\s*(?:'\w+\s+)?(?:mut\s+)?)?(?:mut\s+)?self")
-IMPORT = re.compile(r"^ *ghost use (?P<path>[^\s;{]+?)(?:\.\{(?P<names>[^}]*)\}| as (?P<alias>\S+));", re.M)
+# a function at a line's start, or a method one step in
+FUNCTION = re.compile(r'^(?:    )?(?P<public>pub )?(?:extern "C" )?fn (?P<name>\w+)', re.M)
+ITEM = re.compile(r'^(?:    (?=(?:pub )?fn ))?(?P<public>pub )?(?:(?:extern "C" )?fn|const|struct|enum) (?P<name>\w+)', re.M)
+# what a type can do, and what it does as a trait has it
+IMPL = re.compile(r"^impl(?:<[^{\n]*?>)? (?:(?P<trait>[^{\n]+) for )?(?P<type>\w+)[^{\n]*\{", re.M)
+IMPORT = re.compile(r"^(?:    )?ghost use (?P<path>[^\s;{]+?)(?:\.\{(?P<names>[^}]*)\}| as (?P<alias>\S+));", re.M)
 SPECS = re.compile(r"^Rattle\.(?P<crate>\w+)\.specs\.(?P<file>[^.]+)$")
 CLAUSE = re.compile(r"\b(?P<word>requires|ensures)\b[^{\n]*\{")
 BOUND = re.compile(r"λ ([^.]*)\.\s")
@@ -281,26 +280,31 @@ def in_braces(text, at):
     return text.count("{", 0, at) > text.count("}", 0, at)
 
 
-def methods_in(text):
-    """The methods of a source, each `Type::name` with where it stands."""
-    for own in IMPL.finditer(text):
-        for found in METHOD.finditer(text, own.end(), text.find("\n}", own.end())):
-            yield f"{own['type']}::{found['name']}", found
+@functools.cache
+def impls(text):
+    """The begin and the end of each `impl` of a source, with its type and its trait, or nothing."""
+    return [(found.end(), closing(text, found.end(), "an impl"), found["type"], found["trait"]) for found in IMPL.finditer(text)]
 
 
-def functions_in(text):
-    """The functions of a source and the methods of its types, in their order, each with where it stands."""
-    found = [(function["name"], function) for function in FUNCTION.finditer(text)] + list(methods_in(text))
-    return sorted(found, key=lambda named: named[1].start())
+def owned(text, at):
+    """The `impl` that a place stands in, as its type and its trait; nothing where it stands in none."""
+    return next(((of, trait) for start, end, of, trait in impls(text) if start <= at < end), None)
+
+
+def full_name(text, at, name):
+    """A function's name, behind that of its type where it is a method."""
+    owner = owned(text, at)
+    return f"{owner[0]}::{name}" if owner else name
 
 
 def public_found():
-    """The public functions that a page can name, those of lib.rt itself and of its types: each name with its file, the code there and where it stands in it."""
+    """The public functions that a page can name, those of lib.rt itself and the methods of its types: each name with its file, the code there and where it stands in it."""
     for crate, path in rt_files("src/lib.rt"):
         text = code(path)
-        for name, found in functions_in(text):
-            if found["public"] and ("::" in name or not in_braces(text, found.start())):
-                yield f"{crate}::{name}", path, text, found
+        for found in FUNCTION.finditer(text):
+            owner = owned(text, found.start())
+            if found["public"] and (owner and not owner[1] or not in_braces(text, found.start())):
+                yield f"{crate}::{full_name(text, found.start(), found['name'])}", path, text, found
 
 
 @functools.cache
@@ -320,19 +324,10 @@ def strays():
         text = code(path)
         for found in PUBLIC.finditer(text):
             place = Place(shown(path), line_of(text, found.start()), True)
-            if place not in public_functions().values():
+            if public_functions().get(f"{crate}::{full_name(text, found.start(), found['name'])}") != place:
                 faults.append(f"{place.file}:{place.line}: `{' '.join(found[0].split())}` is public, and does not stand in lib.rt, at a line's start and in no braces, "
-                              "as `pub fn` or `pub extern \"C\" fn`, nor in an `impl` of a type alone: no page has a place for it")
+                              "as `pub fn` or `pub extern \"C\" fn`, or in an `impl` as `pub fn`: no page has a place for it")
     return faults
-
-
-def parameter(piece):
-    """A parameter's name and type, a method's `self` too; nothing where it is neither."""
-    own = SELF.fullmatch(piece)
-    if own:
-        return "self", f"{own['lent'] or ''}Self"
-    found = re.fullmatch(r"(?:mut )?(\w+)\s*:\s*(\S.*)", piece, re.S)
-    return found and found.groups()
 
 
 def signature(text, at, path):
@@ -345,11 +340,12 @@ def signature(text, at, path):
             pieces.append("")
         elif depth:
             pieces[-1] += letter
-    parameters = [parameter(piece.strip()) for piece in pieces if piece.strip()]
+    pieces = [re.sub(r"(.*)\bself", r"self: \1Self", piece.strip()) if re.fullmatch(r"(?:&\s*)?(?:mut )?self", piece.strip()) else piece for piece in pieces]
+    parameters = [re.fullmatch(r"(?:mut )?(\w+)\s*:\s*(\S.*)", piece.strip(), re.S) for piece in pieces if piece.strip()]
     if None in parameters:
         raise Unreadable(f"{shown(path)}:{line_of(text, at)}: a parameter that is no name with its type")
     result = re.compile(r"\s*->\s*([^{\n]*)").match(text, at)
-    return Signature(parameters, result[1].strip() if result else "")
+    return Signature([found.groups() for found in parameters], result[1].strip() if result else "")
 
 
 @functools.cache
@@ -362,11 +358,9 @@ def items():
     names = {}
     for path in sorted(ROOT.glob("crates/*/src/*.rt")):
         front = path.parts[-3] if path.stem in ("lib", "main") else f"{path.parts[-3]}::{path.stem}"
-        text = text_of(path)
+        text = code(path)
         for found in ITEM.finditer(text):
-            put(names, f"{front}::{found['name']}", Place(shown(path), line_of(text, found.start()), bool(found["public"])))
-        for name, found in methods_in(text):
-            put(names, f"{front}::{name}", Place(shown(path), line_of(text, found.start()), bool(found["public"])))
+            put(names, f"{front}::{full_name(text, found.start(), found['name'])}", Place(shown(path), line_of(text, found.start()), bool(found["public"])))
     return names
 
 
@@ -448,10 +442,10 @@ def contracts():
     for crate, path in rt_files():
         text = text_of(path)
         known = imports(text)
-        for function, found in functions_in(text):
+        for found in FUNCTION.finditer(text):
             clauses, bound = contract(text, found.start(), path)
             all_cited = {name for _, clause in clauses for name in words_cited(clause, known, bound | bound_in(clause))}
-            names[f"{crate}::{function}"] = sorted(all_cited)
+            names[f"{crate}::{full_name(code(path), found.start(), found['name'])}"] = sorted(all_cited)
     return names
 
 
@@ -460,10 +454,10 @@ def asking():
     names = set()
     for crate, path in rt_files():
         text = text_of(path)
-        for function, found in functions_in(text):
+        for found in FUNCTION.finditer(text):
             clauses, bound = contract(text, found.start(), path)
             if any(word == "requires" for word, _ in clauses):
-                names.add(f"{crate}::{function}")
+                names.add(f"{crate}::{full_name(code(path), found.start(), found['name'])}")
     return names
 
 

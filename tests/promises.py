@@ -62,7 +62,9 @@ THEOREM = re.compile(r"[a-z0-9]+(?:_[a-z0-9]+)+")
 READING = re.compile(r"Determines \{O = [^{}]+\} \d+ (?P<ps>\S+)\.ps (?P<r>\S+)\.r (?P<post>\S+)\.Post \(λ κs r e\. (?P<read>.*)\)")
 GATHERED = re.compile(r"record \{ (.*) \}")
 # the answer, the bytes of one that is a slice, what a parameter has at exit
-READ = re.compile(r"r|r\.now|e(?:\.1)*\.0\.now")
+READ = re.compile(r"r|r(?:\.bytes)?\.now|e(?:\.1)*\.0\.now")
+# structs that are a lent part and nothing else: the reading that has its bytes
+SHOWN = {"Record": "r.bytes.now"}
 # a type of the code: whether it is lent, for writing, and what is
 LENT = re.compile(r"(?P<lent>&\s*(?:'\w+\s+)?(?P<writing>mut\b)?)?(?P<what>.*)", re.S)
 
@@ -196,7 +198,7 @@ def statements():
         for module, alias in re.findall(r"^(?:pub )?use (\S+) as (\S+)$", text, re.M):
             if alias in aliases:
                 raise names.Unreadable(f"{names.shown(path)}: two modules are named {alias}")
-            aliases[alias] = re.sub(r"^Rattle\.(\w+)\.proofs\.((?:[A-Z]\w*\.)?\w+)\.(Kinds|Reads)$", lambda of: f"{of[1]}::{of[2].replace('.', '::')} {of[3]}", module)
+            aliases[alias] = re.sub(r"^Rattle\.(\w+)\.proofs\.((?:\w+\.)?\w+)\.(Kinds|Reads)$", lambda found: f"{found[1]}::{found[2].replace('.', '::')} {found[3]}", module)
         for stated in names.STATED.finditer(text):
             place = names.Place(names.shown(path), names.line_of(text, stated.start()), True)
             if stated[1] in found:
@@ -214,7 +216,7 @@ def outcome_of(function):
     """What a function leaves, as (what it is, the readings that have all of it): its answer, and what was lent for writing."""
     parameters, result = names.signatures()[function]
     if result not in ("", "()"):
-        yield "the answer", ["r.now", "r"] if LENT.match(result)["lent"] else ["r"]
+        yield "the answer", [SHOWN[result]] if result in SHOWN else ["r.now", "r"] if LENT.match(result)["lent"] else ["r"]
     for place, (name, kind) in enumerate(parameters):
         if LENT.match(kind)["writing"]:
             yield f"what `{name}` has at exit", [at_exit(place)]

@@ -373,8 +373,9 @@ def check_complete(standing, ruled, faults):
     for stray in names.strays():
         faults.add(None, stray)
     for name, place in names.public_functions().items():
-        crate, own = name.split("::")[0], name.rpartition("::")[2]
-        if crate in TESTS:
+        crate, *own = name.lower().split("::")
+        own = "_".join(own)
+        if name.split("::")[0] in TESTS:
             continue
         if name not in standing:
             faults.add(None, f"{name} ({place.file}:{place.line}), a public function, stands in no table")

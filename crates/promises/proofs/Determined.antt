@@ -12,17 +12,16 @@ use Rattle.refusals.specs.declared.Refusal.{Refusal}
 use Rattle.refusals.specs.declared.TraceFault.{TraceFault}
 use Rattle.settings.specs.declared.Flags.{Flags}
 use Rattle.text.specs.Inner.{Written}
-use Rattle.sheet_line.specs.declared.LineAnswer.{LineAnswer}
-use Rattle.importing.specs.declared.Imported.{Imported}
-use Rattle.exporting.specs.declared.Exported.{Exported}
 use Rattle.word.specs.declared.Ndf.{Ndf}
+use Rattle.sheet_line.specs.declared.LineFault.{LineFault}
 use Rattle.records.specs.declared.Kind.{Kind}
-use Rattle.records.specs.declared.First.{First}
-use Rattle.records.specs.declared.PlaceList.{PlaceList}
+use Rattle.records.specs.declared.Places.{Places}
+use Rattle.records.specs.declared.Refusal as of-records
+use Rattle.sheet_refusals.specs.declared.Refusal as of-sheets
 use Rattle.card.specs.declared.CardRefusal.{CardRefusal}
 use Rattle.pairs.specs.declared.Visited.{Visited}
 use Rattle.catalogue.specs.declared.Counted.{Counted}
-use Rattle.catalogue.specs.declared.Looked.{Looked}
+use Rattle.catalogue.specs.declared.Entry.{Entry}
 use Rattle.parity.proofs.parity.Kinds as parity
 use Rattle.parity.proofs.parity.Reads as parity-promise
 use Rattle.trace_message.proofs.start_byte.Kinds as trace-message-start-byte
@@ -75,10 +74,10 @@ use Rattle.catalogue.proofs.check.Kinds as catalogue-check
 use Rattle.catalogue.proofs.check.Reads as catalogue-check-promise
 use Rattle.catalogue.proofs.lookup.Kinds as catalogue-lookup
 use Rattle.catalogue.proofs.lookup.Reads as catalogue-lookup-promise
-use Rattle.records.proofs.number.Kinds as records-number
-use Rattle.records.proofs.number.Reads as records-number-promise
-use Rattle.records.proofs.named.Kinds as records-named
-use Rattle.records.proofs.named.Reads as records-named-promise
+use Rattle.records.proofs.Refusal.number.Kinds as records-refusal-number
+use Rattle.records.proofs.Refusal.number.Reads as records-refusal-number-promise
+use Rattle.records.proofs.Refusal.places.Kinds as records-refusal-places
+use Rattle.records.proofs.Refusal.places.Reads as records-refusal-places-promise
 use Rattle.card.proofs.card_parity.Kinds as card-parity
 use Rattle.card.proofs.card_parity.Reads as card-parity-promise
 use Rattle.card.proofs.card_trace_check.Kinds as card-trace-check
@@ -97,16 +96,22 @@ use Rattle.copier.proofs.copy_part.Kinds as copier-copy-part
 use Rattle.copier.proofs.copy_part.Reads as copier-copy-part-promise
 use Rattle.copier.proofs.copy_at.Kinds as copier-copy-at
 use Rattle.copier.proofs.copy_at.Reads as copier-copy-at-promise
-use Rattle.records.proofs.old_kind.Kinds as records-old-kind
-use Rattle.records.proofs.old_kind.Reads as records-old-kind-promise
-use Rattle.records.proofs.record_at.Kinds as records-record-at
-use Rattle.records.proofs.record_at.Reads as records-record-at-promise
-use Rattle.records.proofs.fault.Kinds as records-fault
-use Rattle.records.proofs.fault.Reads as records-fault-promise
-use Rattle.records.proofs.circuit.Kinds as records-circuit
-use Rattle.records.proofs.circuit.Reads as records-circuit-promise
-use Rattle.records.proofs.trace.Kinds as records-trace
-use Rattle.records.proofs.trace.Reads as records-trace-promise
+use Rattle.records.proofs.Kind.old.Kinds as records-kind-old
+use Rattle.records.proofs.Kind.old.Reads as records-kind-old-promise
+use Rattle.records.proofs.Kind.record_at.Kinds as records-kind-record-at
+use Rattle.records.proofs.Kind.record_at.Reads as records-kind-record-at-promise
+use Rattle.records.proofs.Kind.fault.Kinds as records-kind-fault
+use Rattle.records.proofs.Kind.fault.Reads as records-kind-fault-promise
+use Rattle.records.proofs.Record.label.Kinds as records-record-label
+use Rattle.records.proofs.Record.label.Reads as records-record-label-promise
+use Rattle.records.proofs.Record.flags.Kinds as records-record-flags
+use Rattle.records.proofs.Record.flags.Reads as records-record-flags-promise
+use Rattle.records.proofs.Places.numbers.Kinds as records-places-numbers
+use Rattle.records.proofs.Places.numbers.Reads as records-places-numbers-promise
+use Rattle.records.proofs.Record.circuit.Kinds as records-record-circuit
+use Rattle.records.proofs.Record.circuit.Reads as records-record-circuit-promise
+use Rattle.records.proofs.Record.trace.Kinds as records-record-trace
+use Rattle.records.proofs.Record.trace.Reads as records-record-trace-promise
 use Rattle.text.proofs.bytes.Kinds as text-bytes
 use Rattle.text.proofs.bytes.Reads as text-bytes-promise
 use Rattle.text.proofs.byte.Kinds as text-byte
@@ -147,10 +152,10 @@ use Rattle.sheet_line.proofs.answer.Kinds as sheet-line-answer
 use Rattle.sheet_line.proofs.answer.Reads as sheet-line-answer-promise
 use Rattle.sheet_line.proofs.record.Kinds as sheet-line-record
 use Rattle.sheet_line.proofs.record.Reads as sheet-line-record-promise
-use Rattle.sheet_refusals.proofs.number.Kinds as sheet-refusals-number
-use Rattle.sheet_refusals.proofs.number.Reads as sheet-refusals-number-promise
-use Rattle.sheet_refusals.proofs.named.Kinds as sheet-refusals-named
-use Rattle.sheet_refusals.proofs.named.Reads as sheet-refusals-named-promise
+use Rattle.sheet_refusals.proofs.Refusal.number.Kinds as sheet-refusals-refusal-number
+use Rattle.sheet_refusals.proofs.Refusal.number.Reads as sheet-refusals-refusal-number-promise
+use Rattle.sheet_refusals.proofs.Refusal.places.Kinds as sheet-refusals-refusal-places
+use Rattle.sheet_refusals.proofs.Refusal.places.Reads as sheet-refusals-refusal-places-promise
 use Rattle.importing.proofs.import.Kinds as importing-import
 use Rattle.importing.proofs.import.Reads as importing-import-promise
 use Rattle.exporting.proofs.export.Kinds as exporting-export
@@ -268,14 +273,17 @@ pairs_first_repeat_determined κs a x y s t p q = p ∙ sym q
 pub catalogue_check_determined : Determines {O = Counted} 1 catalogue-check.ps catalogue-check.r catalogue-check-promise.Post (λ κs r e. r)
 catalogue_check_determined κs a x y s t p q = p.answer_is ∙ sym q.answer_is
 
-pub catalogue_lookup_determined : Determines {O = Looked} 1 catalogue-lookup.ps catalogue-lookup.r catalogue-lookup-promise.Post (λ κs r e. r)
+pub catalogue_lookup_determined : Determines {O = Result Entry of-records.Refusal} 1 catalogue-lookup.ps catalogue-lookup.r catalogue-lookup-promise.Post (λ κs r e. r)
 catalogue_lookup_determined κs a x y s t p q = p.answer_is ∙ sym q.answer_is
 
-pub records_number_determined : Determines {O = ℕ} 0 records-number.ps records-number.r records-number-promise.Post (λ κs r e. r)
-records_number_determined κs a x y s t p q = p ∙ sym q
+pub records_refusal_number_determined : Determines {O = ℕ} 0 records-refusal-number.ps records-refusal-number.r records-refusal-number-promise.Post (λ κs r e. r)
+records_refusal_number_determined κs a x y s t p q = p ∙ sym q
 
-pub records_named_determined : Determines {O = PlaceList} 0 records-named.ps records-named.r records-named-promise.Post (λ κs r e. r)
-records_named_determined κs a x y s t p q = p ∙ sym q
+pub records_refusal_places_determined : Determines {O = Places} 0 records-refusal-places.ps records-refusal-places.r records-refusal-places-promise.Post (λ κs r e. r)
+records_refusal_places_determined κs a x y s t p q = p ∙ sym q
+
+pub records_places_numbers_determined : Determines {O = ℕ × ℕ} 0 records-places-numbers.ps records-places-numbers.r records-places-numbers-promise.Post (λ κs r e. r)
+records_places_numbers_determined κs a x y s t p q = p ∙ sym q
 
 -- ---- card
 
@@ -293,20 +301,26 @@ card_settings_check_determined κs a x y s t p q = p ∙ sym q
 
 -- ---- records: what is read of one, the bytes of the part that is handed back
 
-pub records_old_kind_determined : Determines {O = Kind} 0 records-old-kind.ps records-old-kind.r records-old-kind-promise.Post (λ κs r e. r)
-records_old_kind_determined κs a x y s t p q = p ∙ sym q
+pub records_kind_old_determined : Determines {O = Kind} 0 records-kind-old.ps records-kind-old.r records-kind-old-promise.Post (λ κs r e. r)
+records_kind_old_determined κs a x y s t p q = p ∙ sym q
 
-pub records_record_at_determined : Determines {O = List ℕ} 1 records-record-at.ps records-record-at.r records-record-at-promise.Post (λ κs r e. r.now)
-records_record_at_determined κs a x y s t p q = p.0 ∙ sym q.0
+pub records_kind_record_at_determined : Determines {O = List ℕ} 1 records-kind-record-at.ps records-kind-record-at.r records-kind-record-at-promise.Post (λ κs r e. r.bytes.now)
+records_kind_record_at_determined κs a x y s t p q = p ∙ sym q
 
-pub records_trace_determined : Determines {O = List ℕ} 1 records-trace.ps records-trace.r records-trace-promise.Post (λ κs r e. r.now)
-records_trace_determined κs a x y s t p q = p.0 ∙ sym q.0
+pub records_record_trace_determined : Determines {O = List ℕ} 1 records-record-trace.ps records-record-trace.r records-record-trace-promise.Post (λ κs r e. r.now)
+records_record_trace_determined κs a x y s t p q = p.0 ∙ sym q.0
 
-pub records_fault_determined : Determines {O = First} 1 records-fault.ps records-fault.r records-fault-promise.Post (λ κs r e. r)
-records_fault_determined κs a x y s t p q = p ∙ sym q
+pub records_kind_fault_determined : Determines {O = Result ⊤ of-records.Refusal} 1 records-kind-fault.ps records-kind-fault.r records-kind-fault-promise.Post (λ κs r e. r)
+records_kind_fault_determined κs a x y s t p q = p ∙ sym q
 
-pub records_circuit_determined : Determines {O = ℕ} 1 records-circuit.ps records-circuit.r records-circuit-promise.Post (λ κs r e. r)
-records_circuit_determined κs a x y s t p q = p ∙ sym q
+pub records_record_label_determined : Determines {O = ℕ} 1 records-record-label.ps records-record-label.r records-record-label-promise.Post (λ κs r e. r)
+records_record_label_determined κs a x y s t p q = p ∙ sym q
+
+pub records_record_flags_determined : Determines {O = ℕ} 1 records-record-flags.ps records-record-flags.r records-record-flags-promise.Post (λ κs r e. r)
+records_record_flags_determined κs a x y s t p q = p ∙ sym q
+
+pub records_record_circuit_determined : Determines {O = ℕ} 1 records-record-circuit.ps records-record-circuit.r records-record-circuit-promise.Post (λ κs r e. r)
+records_record_circuit_determined κs a x y s t p q = p ∙ sym q
 
 -- ---- bytes parted, digits and quotes read: numbers, tests, and the bytes of the part that is handed back
 
@@ -342,14 +356,14 @@ quotes_count_determined κs a x y s t p q = p ∙ sym q
 
 -- ---- a line of a spreadsheet, and the import's refusals
 
-pub sheet_line_answer_determined : Determines {O = LineAnswer} 1 sheet-line-answer.ps sheet-line-answer.r sheet-line-answer-promise.Post (λ κs r e. r)
+pub sheet_line_answer_determined : Determines {O = Result ⊤ LineFault} 1 sheet-line-answer.ps sheet-line-answer.r sheet-line-answer-promise.Post (λ κs r e. r)
 sheet_line_answer_determined κs a x y s t p q = p ∙ sym q
 
-pub sheet_refusals_number_determined : Determines {O = ℕ} 0 sheet-refusals-number.ps sheet-refusals-number.r sheet-refusals-number-promise.Post (λ κs r e. r)
-sheet_refusals_number_determined κs a x y s t p q = p ∙ sym q
+pub sheet_refusals_refusal_number_determined : Determines {O = ℕ} 0 sheet-refusals-refusal-number.ps sheet-refusals-refusal-number.r sheet-refusals-refusal-number-promise.Post (λ κs r e. r)
+sheet_refusals_refusal_number_determined κs a x y s t p q = p ∙ sym q
 
-pub sheet_refusals_named_determined : Determines {O = PlaceList} 0 sheet-refusals-named.ps sheet-refusals-named.r sheet-refusals-named-promise.Post (λ κs r e. r)
-sheet_refusals_named_determined κs a x y s t p q = p ∙ sym q
+pub sheet_refusals_refusal_places_determined : Determines {O = Places} 0 sheet-refusals-refusal-places.ps sheet-refusals-refusal-places.r sheet-refusals-refusal-places-promise.Post (λ κs r e. r)
+sheet_refusals_refusal_places_determined κs a x y s t p q = p ∙ sym q
 
 -- ---- lent buffers: every byte of them. A parameter's list at exit stands at its place among the parameters
 
@@ -408,13 +422,13 @@ pub sheet_line_record_determined : Determines {O = Left} 2 sheet-line-record.ps 
 sheet_line_record_determined κs a x y s t p q = written_same p q
 
 -- the import and the export: the answer, and every byte of the buffer
-pub importing_import_determined : Determines {O = Imported} 2 importing-import.ps importing-import.r importing-import-promise.Post (λ κs r e. r)
+pub importing_import_determined : Determines {O = Result ℕ of-sheets.Refusal} 2 importing-import.ps importing-import.r importing-import-promise.Post (λ κs r e. r)
 importing_import_determined κs a x y s t p q = p.answer_is ∙ sym q.answer_is
 
 pub importing_import_buffer_determined : Determines {O = List ℕ} 2 importing-import.ps importing-import.r importing-import-promise.Post (λ κs r e. e.1.0.now)
 importing_import_buffer_determined κs a x y s t p q = p.now_is ∙ sym q.now_is
 
-pub exporting_export_determined : Determines {O = Exported} 2 exporting-export.ps exporting-export.r exporting-export-promise.Post (λ κs r e. r)
+pub exporting_export_determined : Determines {O = Result ℕ of-records.Refusal} 2 exporting-export.ps exporting-export.r exporting-export-promise.Post (λ κs r e. r)
 exporting_export_determined κs a x y s t p q = p.answer_is ∙ sym q.answer_is
 
 pub exporting_export_buffer_determined : Determines {O = List ℕ} 2 exporting-export.ps exporting-export.r exporting-export-promise.Post (λ κs r e. e.1.0.now)

@@ -9,7 +9,7 @@ ghost use Rattle.sheet_line.specs.Line.{number_field, label_field, trace_on, quo
 ghost use Rattle.sheet_line.specs.Inner.{Sound};
 
 // What may be wrong with a line, in the order in which it is looked for.
-#[derive(Clone, Copy)]
+#[derive(Clone, Copy, PartialEq, Eq)]
 pub enum LineFault {
     // written in another way than ask 1 has it, or longer than 80 bytes, or ended by no LF
     Malformed,
@@ -17,13 +17,6 @@ pub enum LineFault {
     Unquoted,
     // a trace of more than 15 characters
     Long,
-}
-
-// What is wrong first, or that nothing is.
-#[derive(Clone, Copy)]
-pub enum LineAnswer {
-    Wrong(LineFault),
-    Passes,
 }
 
 const COMMA: u8 = 0x2c;
@@ -83,52 +76,60 @@ fn well_formed(s: &[u8]) -> bool
 }
 
 // What is wrong first with a line; `ended` says whether an LF ends it.
-pub fn answer(s: &[u8], ended: bool) -> LineAnswer
+pub fn answer(s: &[u8], ended: bool) -> Result<(), LineFault>
     ensures { result ≡ line_judged (line_faults ended s.now) }
 {
     if !(ended & well_formed(s)) {
-        return LineAnswer::Wrong(LineFault::Malformed);
+        return Err(LineFault::Malformed);
     }
     if !is_quoted(s) {
-        return LineAnswer::Wrong(LineFault::Unquoted);
+        return Err(LineFault::Unquoted);
     }
     if 15 < quotes::count(inside(s)) {
-        return LineAnswer::Wrong(LineFault::Long);
+        return Err(LineFault::Long);
     }
-    LineAnswer::Passes
+    Ok(())
 }
 
-// The mark, the number and the label of a line's record.
-fn front(out: &mut [u8], at: usize, s: &[u8]) -> usize
-    requires { (Sound s.now) × (at + 5 ≤ length out.old) }
-    ensures { Written at (front_of s.now) out.old out.new result }
-{
-    let v = digits::value(split::before(s, COMMA));
-    let a = text::bytes(out, at, b"ZM");
-    let b = text::byte(out, a, (v / 256) as u8);
-    let c = text::byte(out, b, (v % 256) as u8);
-    text::byte(out, c, digits::label(label_field(s)))
+// A line with which nothing is wrong.
+#[derive(Clone, Copy)]
+struct Line<'a> {
+    bytes: &'a [u8],
+    ghost sound: { Sound bytes.now },
 }
 
-// The characters of a line's trace, with spaces up to 15.
-fn trace(out: &mut [u8], at: usize, s: &[u8]) -> usize
-    requires { (Sound s.now) × (at + 15 ≤ length out.old) }
-    ensures { Written at (padded (characters s.now)) out.old out.new result }
-{
-    let spaces = [0x20u8; 15];
-    let t = inside(s);
-    let k = quotes::count(t);
-    let a = quotes::characters(out, at, t);
-    let m = 15 - k;
-    text::bytes(out, a, &spaces[..m])
-}
+impl<'a> Line<'a> {
+    // The mark, the number and the label of its record.
+    fn front(self, out: &mut [u8], at: usize) -> usize
+        requires { at + 5 ≤ length out.old }
+        ensures { Written at (front_of self.entry.bytes.now) out.old out.new result }
+    {
+        let v = digits::value(split::before(self.bytes, COMMA));
+        let a = text::bytes(out, at, b"ZM");
+        let b = text::byte(out, a, (v / 256) as u8);
+        let c = text::byte(out, b, (v % 256) as u8);
+        text::byte(out, c, digits::label(label_field(self.bytes)))
+    }
 
-// The flags of a line.
-fn flags(s: &[u8]) -> u8
-    requires { Sound s.now }
-    ensures { result ≡ value_from 0 (flags_field s.now) }
-{
-    digits::value(flags_field(s)) as u8
+    // The characters of its trace, with spaces up to 15.
+    fn trace(self, out: &mut [u8], at: usize) -> usize
+        requires { at + 15 ≤ length out.old }
+        ensures { Written at (padded (characters self.entry.bytes.now)) out.old out.new result }
+    {
+        let spaces = [0x20u8; 15];
+        let t = inside(self.bytes);
+        let k = quotes::count(t);
+        let a = quotes::characters(out, at, t);
+        let m = 15 - k;
+        text::bytes(out, a, &spaces[..m])
+    }
+
+    // Its flags.
+    fn flags(self) -> u8
+        ensures { result ≡ value_from 0 (flags_field self.entry.bytes.now) }
+    {
+        digits::value(flags_field(self.bytes)) as u8
+    }
 }
 
 // The record that a line says, where nothing is wrong with it, written from a place on.
@@ -136,7 +137,8 @@ pub fn record(out: &mut [u8], at: usize, s: &[u8]) -> usize
     requires { (Sound s.now) × (at + 21 ≤ length out.old) }
     ensures { Written at (record_of s.now) out.old out.new result }
 {
-    let a = front(out, at, s);
-    let b = trace(out, a, s);
-    text::byte(out, b, flags(s))
+    let line = Line { bytes: s };
+    let a = line.front(out, at);
+    let b = line.trace(out, a);
+    text::byte(out, b, line.flags())
 }

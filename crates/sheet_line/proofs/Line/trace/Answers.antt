@@ -1,0 +1,20 @@
+-- `sheet_line::Line::trace` meets its contract: the characters, and then spaces. Assumes nothing.
+use Rattle.sheet_line.proofs.Writing.{trace_few, trace_room, spaces_asked, trace_written}
+use lib.ListN.{length-take, length-replicate}
+use native.Mathlib.Omega.{arith}
+use Rattle.sheet_line.proofs.Line.trace.Goals as goal
+
+pub characters-a-requires : goal.characters-a-requires
+characters-a-requires c = search trace_room
+
+pub overflow_sub-m : goal.overflow_sub-m
+overflow_sub-m c = search trace_few
+
+pub slice_bounds-bytes-end : goal.slice_bounds-bytes-end
+slice_bounds-bytes-end c = simp (length-take, length-replicate) (omega arith)
+
+pub bytes-requires : goal.bytes-requires
+bytes-requires c = search spaces_asked
+
+pub returns : goal.returns
+returns c = search trace_written
