@@ -1,23 +1,15 @@
 // The sending half of the bench: a container source and a unit source, a queue of two containers, and what the container source is given.
 #![tactic(auto)]
 
-use bench_say::Output;
-use bench_script::least;
+ghost use Rattle.std.specs.Prelude.{◌<◌};
+
+use bench_line::Buffer;
+use bench_say::{Fnv, Output};
 use container_source::{Given, Unexamined};
 use refusals::{Answer, Refusal};
 use shape::Adjustment;
-use unit_source::Made;
 
-// The two sources; how many containers are queued; the seed of the next payload.
-#[derive(Clone, Copy)]
-pub struct Sources {
-    pub containers: container_source::State,
-    pub units: unit_source::State,
-    pub queued: u8,
-    pub seed: u32,
-}
-
-// What the container source is given.
+// What the container source is given with each payload.
 #[derive(Clone, Copy)]
 pub struct Sent {
     pub label: u8,
@@ -26,247 +18,142 @@ pub struct Sent {
     pub remote: bool,
 }
 
-// After a command: the sources, and how long the line is.
-#[derive(Clone, Copy)]
-pub struct Line {
-    pub sources: Sources,
-    pub length: usize,
-}
-
-pub fn fresh() -> Sources {
-    Sources {
-        containers: container_source::fresh(),
-        units: unit_source::fresh(),
-        queued: 0,
-        seed: 0,
-    }
-}
-
-// What every container with these settings will be refused for, in the order in which the container source refuses.
-fn order(x: Sent) -> Answer {
-    let characters = x.trace;
-    let path = settings::path_answer(x.label, &characters);
-    match path {
-        Answer::Refused(_) => {
-            return path;
+impl Sent {
+    fn given(self) -> Given {
+        Given {
+            label: self.label,
+            unexamined: Unexamined {
+                f2: 0x11,
+                h4: 0x22,
+                f3: 0x33,
+                k3: 0x44,
+                n1: 0x55,
+            },
+            violations: self.violations,
+            remote: self.remote,
         }
-        Answer::Done => {}
     }
-    if 8 < x.violations {
-        return Answer::Refused(Refusal::Violations);
-    }
-    Answer::Done
-}
 
-// `tx`: says at once that the settings will be refused, where they will.
-pub fn say_order<P: Print>(out: &mut Output<P>, x: Sent) {
-    let answer = order(x);
-    match answer {
-        Answer::Refused(_) => {
-            bench_say::refused(
-                out,
-                b"tx refused ",
-                refusals::number(answer),
-                refusals::place(answer),
-                0,
-            );
+    // What every container will be refused for, in the order in which the container source refuses.
+    fn answer(self) -> Answer {
+        let characters = self.trace;
+        match settings::path_answer(self.label, &characters) {
+            Answer::Done if 8 < self.violations => Answer::Refused(Refusal::Violations),
+            answer => answer,
         }
-        Answer::Done => {}
     }
-}
 
-fn turned(x: u32) -> u32 {
-    ((x as u64 * 1664525 + 1013904223) % 4294967296) as u32
-}
-
-fn top(x: u32) -> u8 {
-    (x / 16777216) as u8
+    // `tx`: says at once that every container will be refused, where it will.
+    pub fn say_order<P: Print>(self, out: &mut Output<P>) {
+        out.is_done("tx refused", self.answer());
+    }
 }
 
 // The payload of a seed.
-fn payload(seed: u32, out: &mut [u8]) {
-    let mut x = seed;
-    for b in out.iter_mut() {
-        x = turned(x);
-        *b = top(x);
-    }
-}
-
-fn after(n: u32) -> u32 {
-    ((n as u64 + 1) % 4294967296) as u32
-}
-
-// One container more, into the queue's next place; none where the source refuses it.
-fn queue_one<P: Print>(out: &mut Output<P>, q: Sources, x: Sent, container: &mut [u8]) -> Sources {
+fn payload(seed: u32) -> [u8; 2340] {
     let mut bytes = [0u8; 2340];
-    payload(q.seed, &mut bytes);
-    let given = Given {
-        label: x.label,
-        unexamined: Unexamined {
-            f2: 0x11,
-            h4: 0x22,
-            f3: 0x33,
-            k3: 0x44,
-            n1: 0x55,
-        },
-        violations: x.violations,
-        remote: x.remote,
-    };
-    let characters = x.trace;
-    let state = q.containers;
-    let sent = container_source::container_source(state, given, &characters, &bytes, container);
-    let answer = sent.answer;
-    match answer {
-        Answer::Refused(_) => {
-            bench_say::refused(
-                out,
-                b"container refused ",
-                refusals::number(answer),
-                refusals::place(answer),
-                0,
-            );
-            return q;
+    let mut x = seed;
+    for byte in bytes.iter_mut() {
+        x = x.wrapping_mul(1664525).wrapping_add(1013904223);
+        let [top, _, _, _] = x.to_be_bytes();
+        *byte = top;
+    }
+    bytes
+}
+
+// The two sources, the containers that are queued, as many as `queued` says, and the seed of the next payload.
+#[derive(Drop)]
+pub struct Sender {
+    containers: container_source::State,
+    units: unit_source::State,
+    queue: [[u8; 2349]; 2],
+    queued: usize,
+    seed: u32,
+}
+
+impl Sender {
+    pub fn fresh() -> Sender {
+        Sender {
+            containers: container_source::fresh(),
+            units: unit_source::fresh(),
+            queue: [[0; 2349]; 2],
+            queued: 0,
+            seed: 0,
         }
-        Answer::Done => {}
     }
-    let queued = if_less(q.queued);
-    let units = q.units;
-    let seed = after(q.seed);
-    let containers = sent.state;
-    Sources {
-        containers,
-        units,
-        queued,
-        seed,
+
+    // The next payload's container, into a place of the queue; whether the source has taken it.
+    fn fill_place<P: Print>(&mut self, out: &mut Output<P>, sent: Sent, place: usize) -> bool
+        requires { place < 2 }
+    {
+        let characters = sent.trace;
+        let bytes = payload(self.seed);
+        let made = container_source::container_source(
+            self.containers,
+            sent.given(),
+            &characters,
+            &bytes,
+            &mut self.queue[place],
+        );
+        let is_done = out.is_done("container refused", made.answer);
+        if is_done {
+            self.containers = made.state;
+            self.seed = self.seed.wrapping_add(1);
+        }
+        is_done
+    }
+
+    // The queue, filled to two containers; whether it is.
+    fn fill<P: Print>(&mut self, out: &mut Output<P>, sent: Sent) -> bool {
+        for place in self.queued..2 {
+            if !self.fill_place(out, sent, place) {
+                return false;
+            }
+            self.queued = place + 1;
+        }
+        true
+    }
+
+    // `src`: the queue filled, and the next unit written.
+    pub fn send<P: Print>(
+        &mut self,
+        out: &mut Output<P>,
+        sent: Sent,
+        adjustment: Adjustment,
+        line: &mut Buffer,
+    ) {
+        if !self.fill(out, sent) {
+            return;
+        }
+        line.resize(2358);
+        let [first, second] = &self.queue;
+        let made = unit_source::unit_source(
+            self.units,
+            adjustment,
+            first,
+            second,
+            line.bytes_mut(),
+        );
+        if !out.is_done("unit refused", made.answer) {
+            return;
+        }
+        self.units = made.state;
+        say_unit(out, line.bytes(), made.ended, made.state.offset);
+        // where one container ended, the second becomes the first
+        if made.ended == 1 {
+            self.queue[0] = self.queue[1];
+        }
+        self.queued = self.queued.saturating_sub(usize::from(made.ended));
     }
 }
 
-// One more, of two.
-fn if_less(n: u8) -> u8 {
-    if n < 2 { n + 1 } else { 2 }
-}
-
-// The queue, filled to two: the first container is its first half.
-fn fill<P: Print>(out: &mut Output<P>, q: Sources, x: Sent, queue: &mut [u8]) -> Sources {
-    let k = least(2349, queue.len());
-    if 1 < q.queued {
-        return q;
-    }
-    if q.queued == 1 {
-        return queue_one(out, q, x, &mut queue[k..]);
-    }
-    let one = queue_one(out, q, x, &mut queue[..k]);
-    if one.queued == 0 {
-        return one;
-    }
-    queue_one(out, one, x, &mut queue[k..])
-}
-
-// Where one container ended, the second becomes the first.
-fn move_up(ended: u8, queue: &mut [u8]) {
-    if ended != 1 {
-        return;
-    }
-    let n = queue.len() / 2;
-    let mut i = 0;
-    while i < n {
-        let b = queue[n + i];
-        queue[i] = b;
-        i += 1;
-    }
-}
-
-fn left_of(queued: u8, ended: u8) -> u8 {
-    if ended < queued { queued - ended } else { 0 }
-}
-
-// H1 and H2.
-fn say_word<P: Print>(out: &mut Output<P>, unit: &[u8]) {
-    if 4 <= unit.len() {
-        bench_say::hex(out, unit[0]);
-        bench_say::hex(out, unit[3]);
-    }
-}
-
+// H1 and H2, the word of a unit, in its places 0 and 3.
 fn say_unit<P: Print>(out: &mut Output<P>, unit: &[u8], ended: u8, offset: u16) {
-    bench_say::text(out, b"unit ended=");
-    bench_say::decimal(out, ended as u64);
-    bench_say::text(out, b" word=");
-    say_word(out, unit);
-    bench_say::text(out, b" fnv=");
-    bench_say::fnv(out, unit);
-    bench_say::text(out, b" off=");
-    bench_say::decimal(out, offset as u64);
-    bench_say::text(out, b"\n");
-}
-
-// The sources after a unit in which so many containers ended.
-fn after_unit(q: Sources, units: unit_source::State, ended: u8) -> Sources {
-    let containers = q.containers;
-    let queued = left_of(q.queued, ended);
-    let seed = q.seed;
-    Sources {
-        containers,
-        units,
-        queued,
-        seed,
+    if let [h1, _, _, h2, ..] = unit {
+        writeln!(
+            out,
+            "unit ended={ended} word={h1:02X}{h2:02X} fnv={} off={offset}",
+            Fnv(unit),
+        );
     }
-}
-
-// The next unit, of two queued containers.
-fn next_unit(s: unit_source::State, a: Adjustment, queue: &[u8], unit: &mut [u8]) -> Made {
-    let k = least(2349, queue.len());
-    unit_source::unit_source(s, a, &queue[..k], &queue[k..], unit)
-}
-
-fn send_unit<P: Print>(
-    out: &mut Output<P>,
-    q: Sources,
-    a: Adjustment,
-    queue: &mut [u8],
-    unit: &mut [u8],
-) -> Sources {
-    let state = q.units;
-    let made = next_unit(state, a, queue, unit);
-    let answer = made.answer;
-    match answer {
-        Answer::Refused(_) => {
-            bench_say::refused(
-                out,
-                b"unit refused ",
-                refusals::number(answer),
-                refusals::place(answer),
-                0,
-            );
-            return q;
-        }
-        Answer::Done => {}
-    }
-    let units = made.state;
-    say_unit(out, unit, made.ended, units.offset);
-    move_up(made.ended, queue);
-    after_unit(q, units, made.ended)
-}
-
-// `src`: the queue filled, and the next unit written.
-pub fn send<P: Print>(
-    out: &mut Output<P>,
-    q: Sources,
-    x: Sent,
-    a: Adjustment,
-    length: usize,
-    queue: &mut [u8],
-    line: &mut [u8],
-) -> Line {
-    let full = fill(out, q, x, queue);
-    if full.queued < 2 {
-        return Line {
-            sources: full,
-            length,
-        };
-    }
-    bench_line::clear(line, length, 2358);
-    let n = least(2358, line.len());
-    let sources = send_unit(out, full, a, queue, &mut line[..n]);
-    Line { sources, length: n }
 }

@@ -2,44 +2,35 @@
 #![tactic(auto)]
 
 use exporting::Exported;
+use programs::{InWords, Program};
 
-fn export(out: &impl Print, errors: &impl Print, s: &[u8]) {
+fn export<E: Print>(program: &Program<E>, out: &impl Print, catalogue: &[u8]) {
     let mut text = [0u8; 23552];
-    match exporting::export(s, &mut text) {
-        Exported::Text(n) => {
-            programs::print(out, errors, b"export", &text[..n]);
-        }
-        Exported::Not(x) => {
-            programs::refuse(
-                out,
-                errors,
-                b"export",
-                b"record",
-                records::number(x),
-                records::named(x),
-            );
-        }
+    match exporting::export(catalogue, &mut text) {
+        Exported::Text(n) => program.print(out, &text[..n]),
+        Exported::Not(why) => program.refuse(
+            out,
+            records::number(why),
+            records::named(why),
+            InWords {
+                what: "record",
+                why,
+            },
+        ),
     }
 }
 
 fn main(rt: HostRuntime) {
-    let errors = rt.stderr();
-    if programs::has_argument(&rt) {
-        programs::complain(
-            &errors,
-            b"usage: export < CATALOGUE > TEXT\nprints a line for each circuit, as 7,12,\"03E5           \",15; for a refused catalogue one line instead, the refusal's number and the places, and says it in words here\n",
-        );
+    let program = Program::new("export", rt.stderr());
+    if program.says_usage(
+        &rt,
+        "usage: export < CATALOGUE > TEXT\nprints a line for each circuit, as 7,12,\"03E5           \",15; for a refused catalogue one line instead, the refusal's number and the places, and says it in words here",
+    ) {
         return;
     }
-    let mut input = rt.stdin();
     // one byte more than the longest catalogue, so that a longer file is seen to be longer
     let mut file = [0u8; 10753];
-    let n = programs::read_full(&mut input, &mut file);
-    if n < 10753 {
-        if !programs::ended(&mut input) {
-            programs::cannot_read(&errors, b"export");
-            return;
-        }
+    if let Some(catalogue) = program.read(&mut rt.stdin(), &mut file) {
+        export(&program, &rt.stdout(), catalogue);
     }
-    export(&rt.stdout(), &errors, &file[..n]);
 }
