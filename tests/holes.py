@@ -67,7 +67,7 @@ TRIALS = [
     theorem("Determined", "records-trace-promise.Post (λ κs r e. r.now)", "records-trace-promise.Post (λ κs r e. a)",
             "records::trace", "records_trace_determined", "`a`"),
     # a buffer left out; read at another's place; twice, and the other not; two of them run together
-    theorem("Received", f"record {{ received = r; held = {HELD}; done = {DONE} }}", f"record {{ received = r; held = {HELD} }}",
+    theorem("Received", f"record {{ answer = r; state = e.0.now; held = {HELD}; done = {DONE} }}", f"record {{ answer = r; state = e.0.now; held = {HELD} }}",
             "sink::sink", f"what `done` has at exit, `{DONE}`,", "sink_determined"),
     theorem("Determined", "copier-copy-at-promise.Post (λ κs r e. e.1.0.now)", "copier-copy-at-promise.Post (λ κs r e. e.0.now)",
             "copier::copy_at", "what `dst` has at exit, `e.1.0.now`,", "copier_copy_at_determined"),

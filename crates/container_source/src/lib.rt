@@ -8,7 +8,7 @@ ghost use Rattle.refusals.specs.Refusals.{answer_of};
 ghost use Rattle.container_source.specs.Overhead.{j1_of, g1_of, overhead_of};
 ghost use Rattle.container_source.specs.Source.{fresh_container_source, send_faults, SendsAs, Sends};
 
-use refusals::{Answer, Refusal};
+use refusals::Refusal;
 use shape::Shape;
 
 // A source between two containers: the next place in the 16-byte message, and the parity of the container before.
@@ -35,13 +35,6 @@ pub struct Given {
     pub unexamined: Unexamined,
     pub violations: u8,
     pub remote: bool,
-}
-
-// The answer, and the state from then on: the old one where the call was refused.
-#[derive(Clone, Copy)]
-pub struct Sent {
-    pub answer: Answer,
-    pub state: State,
 }
 
 // A source that has sent nothing.
@@ -97,81 +90,67 @@ fn answer(
     payload: usize,
     container: usize,
     violations: u8,
-) -> Answer
+) -> Result<(), Refusal>
     requires { Fit shape }
     ensures { result ≡ answer_of (send_faults shape place label characters payload container violations) }
 {
     let full = 9 * (shape.columns - 1);
     if 15 < place {
-        return Answer::Refused(Refusal::State);
+        return Err(Refusal::State);
     }
-    match settings::path_answer(label, &characters) {
-        Answer::Refused(x) => {
-            return Answer::Refused(x);
-        }
-        Answer::Done => {}
-    }
+    settings::path_answer(label, &characters)?;
     if payload != full {
-        return Answer::Refused(Refusal::Payload);
+        return Err(Refusal::Payload);
     }
     if container != shape.size {
-        return Answer::Refused(Refusal::Container);
+        return Err(Refusal::Container);
     }
     if 8 < violations {
-        return Answer::Refused(Refusal::Violations);
+        return Err(Refusal::Violations);
     }
-    Answer::Done
+    Ok(())
 }
 
 // One container of any shape.
 fn send(
     shape: Shape,
-    s: State,
+    s: &mut State,
     g: Given,
     characters: &[u8; 15],
     payload: &[u8],
     container: &mut [u8],
-) -> Sent
+) -> Result<(), Refusal>
     requires { Fit shape }
-    ensures { SendsAs shape s g characters.now payload.now container.old result container.new }
+    ensures { SendsAs shape s.old g characters.now payload.now container.old (record { answer = result; state = s.new }) container.new }
 {
     let t = *characters;
-    match answer(
+    let before = *s;
+    answer(
         shape,
-        s.place,
+        before.place,
         g.label,
         t,
         payload.len(),
         container.len(),
         g.violations,
-    ) {
-        Answer::Refused(x) => {
-            return Sent {
-                answer: Answer::Refused(x),
-                state: s,
-            };
-        }
-        Answer::Done => {}
-    }
-    let o = overhead(s, g, t);
+    )?;
+    let o = overhead(before, g, t);
     container::rows(shape.columns - 1, o, payload, container);
     let parity = parity::parity(container);
-    let place = (s.place + 1) % 16;
-    Sent {
-        answer: Answer::Done,
-        state: State { place, parity },
-    }
+    let place = (before.place + 1) % 16;
+    *s = State { place, parity };
+    Ok(())
 }
 
-// The next VC-4 of a source: all 2349 bytes are written. Refuses 8, 4, 5, 2, 3, 6.
+// The next VC-4 of a source: all 2349 bytes are written, and its state is the one after it. Refuses 8, 4, 5, 2, 3, 6: then both are as they were.
 pub fn container_source(
-    s: State,
+    s: &mut State,
     g: Given,
     characters: &[u8; 15],
     payload: &[u8],
     container: &mut [u8],
-) -> Sent
-    ensures { Sends au4 s g characters.now payload.now container.old result container.new }
+) -> Result<(), Refusal>
+    ensures { Sends au4 s.old g characters.now payload.now container.old (record { answer = result; state = s.new }) container.new }
 {
     send(shape::au4_shape(), s, g, characters, payload, container)
 }

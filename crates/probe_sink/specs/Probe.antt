@@ -1,17 +1,20 @@
 -- A sink's state and answer with no enum in them, so that tests and benchmarks in another language can give any state and read all that a call leaves; and a container that it handed back.
-use Rattle.std.specs.Prelude.{◌≡◌, ℕ, cond, List, eqb, ltb, length}
+use Rattle.std.specs.Prelude.{◌≡◌, ℕ, false, cond, List, eqb, ltb, length, Result, ⊤}
 use Rattle.copier.specs.Put.{put}
 use Rattle.refusals.specs.Refusals.{answer_number, answer_place}
+use Rattle.refusals.specs.declared.Refusal.{Refusal}
 use Rattle.shape.specs.Shape.{au4}
 use Rattle.pointer_state.specs.declared.State as pointer-state
 use Rattle.pointer_state.specs.declared.State.TheVariants.{Normal, Alarm, Lost}
 use Rattle.pointer_state.specs.State.{offset_of}
 use Rattle.settings.specs.declared.Settings.{Settings}
+use Rattle.receiving.specs.Receiving.{silence}
 use Rattle.receiving.specs.declared.Ended.{Ended}
+use Rattle.unit_end.specs.Actions.{no_defects, no_actions, no_causes}
 use Rattle.view.specs.View.{container_handed}
 use Rattle.sink.specs.declared.State.{State}
-use Rattle.sink.specs.declared.Received.{Received}
-use Rattle.sink.specs.Sink.{ReceivedOutcome, sink}
+use Rattle.sink.specs.declared.Report.{Report}
+use Rattle.sink.specs.Sink.{Received, ReceivedOutcome, sink}
 use Rattle.probe_sink.specs.declared.Plain.{Plain}
 use Rattle.probe_sink.specs.declared.Shown.{Shown}
 
@@ -45,6 +48,14 @@ plain_of s =
       monitor = s.monitor;
       total = s.total;
     }
+
+-- what is told of a unit where none was
+unfoldable pub untold : Report
+untold = record { ended = silence.ended; actions = no_actions; defects = no_defects; causes = no_causes; settled = false }
+
+-- an answer, a state and a report, as one
+abbrev pub received_as : Result ⊤ Refusal → State → Report → Received
+received_as a state r = record { answer = a; state = state; ended = r.ended; actions = r.actions; defects = r.defects; causes = r.causes; settled = r.settled }
 
 unfoldable pub shown_of : Received → Shown
 shown_of x =

@@ -4,14 +4,16 @@
 
 ghost use Rattle.std.specs.Prelude.{◌≡◌};
 ghost use Rattle.sink.specs.Sink as sink;
-ghost use Rattle.probe_sink.specs.Probe.{pointer_state, state_kind, state_of, plain_of, shown_of, Shows, WritesContainer};
+ghost use Rattle.sink.specs.Sink.{received_by};
+ghost use Rattle.probe_sink.specs.Probe.{pointer_state, state_kind, state_of, plain_of, untold, received_as, shown_of, Shows, WritesContainer};
 
 use monitor::Monitor;
 use pointer::{Pointer, Rows};
 use pointer_rules::Run;
 use receiving::Ended;
+use refusals::Refusal;
 use settings::Settings;
-use sink::Received;
+use sink::Report;
 use unit_end::{Actions, Causes, Defects};
 
 // A sink's state: the kind is 0 for lost, 1 for alarm, 2 for normal; the offset counts where it is normal.
@@ -104,15 +106,30 @@ fn plain_of(s: sink::State) -> Plain
     }
 }
 
-fn show(x: Received) -> Shown
-    ensures { result ≡ shown_of x }
+// What is told of a unit where none was, of a monitor that has seen nothing.
+fn untold() -> Report
+    ensures { result ≡ untold }
 {
-    let a = x.answer;
-    let s = x.state;
-    let ended = x.ended;
-    let actions = x.actions;
-    let defects = x.defects;
-    let causes = x.causes;
+    let none = receiving::silent();
+    let ended = none.ended;
+    let m = none.monitor;
+    let defects = unit_end::defects_of(m);
+    Report {
+        ended,
+        actions: unit_end::actions_of(false, defects),
+        defects,
+        causes: unit_end::causes_of(false, false, defects, settings::flags_of(0)),
+        settled: false,
+    }
+}
+
+fn show_as(a: Result<(), Refusal>, s: sink::State, r: Report) -> Shown
+    ensures { result ≡ shown_of (received_as a s r) }
+{
+    let ended = r.ended;
+    let actions = r.actions;
+    let defects = r.defects;
+    let causes = r.causes;
     Shown {
         number: refusals::number(a),
         place: refusals::place(a),
@@ -121,7 +138,16 @@ fn show(x: Received) -> Shown
         actions,
         defects,
         causes,
-        settled: x.settled,
+        settled: r.settled,
+    }
+}
+
+fn show(a: Result<Report, Refusal>, s: sink::State) -> Shown
+    ensures { result ≡ shown_of (received_by a s) }
+{
+    match a {
+        Ok(r) => show_as(Ok(()), s, r),
+        Err(x) => show_as(Err(x), s, untold()),
     }
 }
 
@@ -136,7 +162,9 @@ pub fn probe_fresh_sink() -> Plain
 pub fn probe_sink(s: Plain, e: Settings, unit: &[u8], held: &mut [u8], done: &mut [u8]) -> Shown
     ensures { Shows s e unit.now held.old done.old result held.new done.new }
 {
-    show(sink::sink(state_of(s), e, unit, held, done))
+    let mut state = state_of(s);
+    let a = sink::sink(&mut state, e, unit, held, done);
+    show(a, state)
 }
 
 // The container that ended k-th in a unit, counted from 0, taken through the view: its bytes are written to the start of `out`, and their number is answered. Where so many

@@ -7,10 +7,10 @@ use Rattle.container.specs.Payload.{Handed}
 use Rattle.container_source.specs.Source as containers
 use Rattle.container_source.specs.declared.State as between-containers
 use Rattle.container_source.specs.declared.Given.{Given}
-use Rattle.container_source.specs.declared.Sent.{Sent}
+use Rattle.container_source.specs.Source.{Sent}
 use Rattle.unit_source.specs.Source as units
 use Rattle.unit_source.specs.declared.State as between-units
-use Rattle.unit_source.specs.declared.Made.{Made}
+use Rattle.unit_source.specs.Source.{Made}
 
 -- a container source's state: place and parity, a byte each
 unfoldable pub packed_source : between-containers.State → ℕ

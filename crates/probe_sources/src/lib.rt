@@ -8,12 +8,12 @@ ghost use Rattle.container.specs.Payload.{payload_call};
 ghost use Rattle.container_source.specs.Source as containers;
 ghost use Rattle.container_source.specs.Source.{container_source};
 ghost use Rattle.unit_source.specs.Source as units;
-ghost use Rattle.unit_source.specs.Source.{unit_source};
+ghost use Rattle.unit_source.specs.Source.{made_by, unit_source};
 ghost use Rattle.probe_sources.specs.Probe.{packed_source, packed_sent, packed_unit, packed_made, adjustment_by, given_of, Probes, probed_sent, probed_made, probed_handed};
 
-use container_source::{Given, Sent, Unexamined};
+use container_source::{Given, Unexamined};
+use refusals::Refusal;
 use shape::Adjustment;
-use unit_source::Made;
 
 fn pack_source(s: container_source::State) -> u32
     ensures { (result ≡ packed_source s) × (result < 65536) }
@@ -28,11 +28,9 @@ fn pack_place(p: usize) -> u32
     (p % 256) as u32
 }
 
-fn pack_sent(x: Sent) -> u32
-    ensures { result ≡ packed_sent x }
+fn pack_sent(a: Result<(), Refusal>, s: container_source::State) -> u32
+    ensures { result ≡ packed_sent (record { answer = a; state = s }) }
 {
-    let a = x.answer;
-    let s = x.state;
     pack_place(refusals::place(a)) * 16777216 + refusals::number(a) as u32 * 65536 + pack_source(s)
 }
 
@@ -61,7 +59,7 @@ pub fn probe_container(
 ) -> u32
     ensures { Probes result container.new (probed_sent (container_source au4 (record { place = place; parity = parity }) (given_of label f2 h4 f3 k3 n1 violations remote) characters.now payload.now container.old)) }
 {
-    let s = container_source::State { place, parity };
+    let mut s = container_source::State { place, parity };
     let unexamined = Unexamined { f2, h4, f3, k3, n1 };
     let g = Given {
         label,
@@ -69,7 +67,8 @@ pub fn probe_container(
         violations,
         remote,
     };
-    pack_sent(container_source::container_source(s, g, characters, payload, container))
+    let a = container_source::container_source(&mut s, g, characters, payload, container);
+    pack_sent(a, s)
 }
 
 fn pack_unit(s: unit_source::State) -> u64
@@ -78,13 +77,13 @@ fn pack_unit(s: unit_source::State) -> u64
     s.offset as u64 * 256 + s.wait as u64
 }
 
-fn pack_made(x: Made) -> u64
-    ensures { result ≡ packed_made x }
+fn pack_made(a: Result<u8, Refusal>, s: unit_source::State) -> u64
+    ensures { result ≡ packed_made (made_by a s) }
 {
-    let a = x.answer;
-    let ended = x.ended;
-    let s = x.state;
-    refusals::number(a) as u64 * 4294967296 + ended as u64 * 16777216 + pack_unit(s)
+    match a {
+        Ok(ended) => ended as u64 * 16777216 + pack_unit(s),
+        Err(x) => refusals::number(Err(x)) as u64 * 4294967296 + pack_unit(s),
+    }
 }
 
 // The state of a unit source that has sent nothing.
@@ -117,8 +116,9 @@ pub fn probe_unit(
 ) -> u64
     ensures { Probes result unit.new (probed_made (unit_source au4 (record { offset = offset; wait = wait }) (adjustment_by asked) current.now next.now unit.old)) }
 {
-    let s = unit_source::State { offset, wait };
-    pack_made(unit_source::unit_source(s, adjustment(asked), current, next, unit))
+    let mut s = unit_source::State { offset, wait };
+    let a = unit_source::unit_source(&mut s, adjustment(asked), current, next, unit);
+    pack_made(a, s)
 }
 
 // The payload call.

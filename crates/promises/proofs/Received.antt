@@ -1,9 +1,11 @@
 -- The promises of the sink, and of all that it rests on, allow one outcome each: the answer, the new state and every byte that was lent, refused calls too.
 -- Determined.antt says how this is read off the contracts; of `view::of` alone it is said of what its contract cites. Assumes nothing.
-use mathlib.Core.Path.{◌≡◌, sym, ◌∙◌}
+use mathlib.Core.Path.{◌≡◌, refl, sym, ap, ◌∙◌}
 use mathlib.Core.Bool.{Bool}
 use mathlib.Core.List.{List}
 use Prim.Native.Nat.{ℕ}
+use Rattle.std.specs.Prelude.{Result, Ok, Err, ⊤}
+use Rattle.refusals.specs.declared.Refusal.{Refusal}
 use Rattle.shape.specs.declared.Adjustment.{Adjustment}
 use Rattle.pointer_rules.specs.declared.Run.{Run}
 use Rattle.pointer_rules.specs.declared.Taken.{Taken}
@@ -24,7 +26,8 @@ use Rattle.receiving.specs.declared.Ended.{Ended}
 use Rattle.receiving.specs.declared.AfterUnit.{AfterUnit}
 use Rattle.view.specs.View.{Views}
 use Rattle.view.proofs.Parts.{one_view}
-use Rattle.sink.specs.Sink.{ReceivedOutcome}
+use Rattle.sink.specs.Sink.{refusing, received_by, ReceivedOutcome}
+use Rattle.sink.specs.declared.Report.{Report}
 use Rattle.sink.specs.declared.State.{State}
 use Rattle.probe_sink.specs.Probe.{SinkProbed, ContainerWritten}
 use Rattle.probe_sink.specs.declared.Plain.{Plain}
@@ -266,8 +269,30 @@ view_container_determined κs a x y s t p q = p ∙ sym q
 pub sink_fresh_determined : Determines {O = State} 0 sink-fresh.ps sink-fresh.r sink-fresh-promise.Post (λ κs r e. r)
 sink_fresh_determined κs a x y s t p q = p ∙ sym q
 
-pub sink_determined : Determines {O = ReceivedOutcome} 3 sink.ps sink.r sink-promise.Post (λ κs r e. record { received = r; held = e.1.1.1.0.now; done = e.1.1.1.1.0.now })
-sink_determined κs a x y s t p q = p.outcome_is ∙ sym q.outcome_is
+-- all that a call leaves: the answer, the report or the refusal, the state, and the bytes of both buffers
+pub record SinkLeft : Type 0 where
+  pub answer : Result Report Refusal
+  pub state : State
+  pub held : List ℕ
+  pub done : List ℕ
+
+-- the same, read back from what the promise speaks of
+read_back : ReceivedOutcome → SinkLeft
+read_back o = record { answer = answered o.received.answer; state = o.received.state; held = o.held; done = o.done }
+  where
+    answered : Result ⊤ Refusal → Result Report Refusal
+    answered (Ok tt) =
+        Ok (record { ended = o.received.ended; actions = o.received.actions; defects = o.received.defects; causes = o.received.causes; settled = o.received.settled })
+    answered (Err x) = Err x
+
+read_back_is : (a : Result Report Refusal) (state : State) (held done : List ℕ)
+    → read_back (record { received = received_by a state; held = held; done = done }) ≡ record { answer = a; state = state; held = held; done = done }
+unfolding received_by refusing
+read_back_is (Ok r) state held done = refl
+read_back_is (Err x) state held done = refl
+
+pub sink_determined : Determines {O = SinkLeft} 4 sink.ps sink.r sink-promise.Post (λ κs r e. record { answer = r; state = e.0.now; held = e.1.1.1.0.now; done = e.1.1.1.1.0.now })
+sink_determined κs a x y s t p q = sym (read_back_is x _ _ _) ∙ ap read_back (p.outcome_is ∙ sym q.outcome_is) ∙ read_back_is y _ _ _
 
 -- ---- probe_sink
 

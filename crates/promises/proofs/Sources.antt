@@ -1,8 +1,10 @@
 -- The promises of the sources, and of all that they rest on, allow one outcome each: the answer, the new state and every byte that was lent, refused calls too.
 -- Determined.antt says how this is read off the contracts. Assumes nothing.
-use mathlib.Core.Path.{sym, ◌∙◌}
+use mathlib.Core.Path.{◌≡◌, refl, sym, ap, ◌∙◌}
 use mathlib.Core.List.{List}
 use Prim.Native.Nat.{ℕ}
+use Rattle.std.specs.Prelude.{Result, Ok, Err, ⊤}
+use Rattle.refusals.specs.declared.Refusal.{Refusal}
 use Rattle.shape.specs.declared.Shape.{Shape}
 use Rattle.container.specs.Payload.{Handed}
 use Rattle.container_source.specs.Source as container-left
@@ -100,8 +102,18 @@ payload_call_determined κs a x y s t p q = p.outcome_is ∙ sym q.outcome_is
 pub container_source_fresh_determined : Determines {O = between-containers.State} 0 container-source-fresh.ps container-source-fresh.r container-source-fresh-promise.Post (λ κs r e. r)
 container_source_fresh_determined κs a x y s t p q = p ∙ sym q
 
-pub container_source_determined : Determines {O = container-left.SentOutcome} 3 container-source.ps container-source.r container-source-promise.Post (λ κs r e. record { sent = r; container = e.1.1.1.1.0.now })
-container_source_determined κs a x y s t p q = p.outcome_is ∙ sym q.outcome_is
+-- all that a call leaves: the answer, the state and the container's bytes
+pub record ContainerLeft : Type 0 where
+  pub answer : Result ⊤ Refusal
+  pub state : between-containers.State
+  pub container : List ℕ
+
+-- the same, read back from what the promise speaks of
+container_read_back : container-left.SentOutcome → ContainerLeft
+container_read_back o = record { answer = o.sent.answer; state = o.sent.state; container = o.container }
+
+pub container_source_determined : Determines {O = ContainerLeft} 4 container-source.ps container-source.r container-source-promise.Post (λ κs r e. record { answer = r; state = e.0.now; container = e.1.1.1.1.0.now })
+container_source_determined κs a x y s t p q = ap container_read_back (p.outcome_is ∙ sym q.outcome_is)
 
 -- ---- unit
 
@@ -116,8 +128,26 @@ unit_pour_determined κs a x y s t p q = p ∙ sym q
 pub unit_source_fresh_determined : Determines {O = between-units.State} 0 unit-source-fresh.ps unit-source-fresh.r unit-source-fresh-promise.Post (λ κs r e. r)
 unit_source_fresh_determined κs a x y s t p q = p ∙ sym q
 
-pub unit_source_determined : Determines {O = unit_left.MadeOutcome} 3 unit-source.ps unit-source.r unit-source-promise.Post (λ κs r e. record { made = r; unit = e.1.1.1.1.0.now })
-unit_source_determined κs a x y s t p q = p.outcome_is ∙ sym q.outcome_is
+-- the same of the unit source: the answer, how many ended or the refusal, the state and the unit's bytes
+pub record UnitLeft : Type 0 where
+  pub answer : Result ℕ Refusal
+  pub state : between-units.State
+  pub unit : List ℕ
+
+unit_read_back : unit_left.MadeOutcome → UnitLeft
+unit_read_back o = record { answer = answered o.made.answer; state = o.made.state; unit = o.unit }
+  where
+    answered : Result ⊤ Refusal → Result ℕ Refusal
+    answered (Ok tt) = Ok o.made.ended
+    answered (Err x) = Err x
+
+unit_read_back_is : (a : Result ℕ Refusal) (state : between-units.State) (unit : List ℕ) → unit_read_back (record { made = unit_left.made_by a state; unit = unit }) ≡ record { answer = a; state = state; unit = unit }
+unfolding unit_left.made_by
+unit_read_back_is (Ok n) state unit = refl
+unit_read_back_is (Err x) state unit = refl
+
+pub unit_source_determined : Determines {O = UnitLeft} 4 unit-source.ps unit-source.r unit-source-promise.Post (λ κs r e. record { answer = r; state = e.0.now; unit = e.1.1.1.1.0.now })
+unit_source_determined κs a x y s t p q = sym (unit_read_back_is x _ _) ∙ ap unit_read_back (p.outcome_is ∙ sym q.outcome_is) ∙ unit_read_back_is y _ _
 
 -- ---- probe_sources
 

@@ -9,7 +9,7 @@ use Rattle.container_source.specs.Source as container-source
 use Rattle.container_source.specs.declared.State.{State}
 use Rattle.container_source_theorems.specs.Run as sending
 use Rattle.unit_source.specs.Source as unit-source
-use Rattle.unit_source.specs.declared.Made.{Made}
+use Rattle.unit_source.specs.Source.{Made}
 use Rattle.unit_source_theorems.specs.Sending as stream
 use Rattle.sink.specs.Sink as sink
 use Rattle.settles.specs.Demand.{Run, Path, Making, Log, Supplied, Settles, Demand, most, eight, sent, fed, path_after, path_at, made_at, received_at, log_of}

@@ -5,9 +5,8 @@
 --   number, up to its cap. From the 67th unit on, each container that ends is handed back as sent, byte for byte, in order, none lost or doubled, with zero parity violations
 --   and no defect."
 -- Units and containers are numbered from 0: unit n comes after n others. A row without end stands for its beginnings, so a run is of every length.
-use Rattle.std.specs.Prelude.{◌≡◌, ℕ, zero, suc, ◌+◌, ◌≤◌, ◌<◌, min, true, false, cond, List, [], ◌∷◌, ◌++◌, length, replicate}
+use Rattle.std.specs.Prelude.{◌≡◌, ℕ, zero, suc, ◌+◌, ◌≤◌, ◌<◌, min, true, false, cond, List, [], ◌∷◌, ◌++◌, length, replicate, Ok}
 use Rattle.settings.specs.Faults.{settings_faults}
-use Rattle.refusals.specs.declared.Answer.TheVariants.{Done}
 use Rattle.shape.specs.Shape.{unit_length, au4}
 use Rattle.shape.specs.declared.Shape.{Shape}
 use Rattle.shape.specs.declared.Adjustment.{Adjustment}
@@ -17,17 +16,17 @@ use Rattle.overhead.specs.Labels.{fits}
 use Rattle.unit_end.specs.Settled.{none_stands}
 use Rattle.container_source.specs.Source as container-source
 use Rattle.container_source.specs.declared.State as container-source-state
-use Rattle.container_source.specs.declared.Sent.{Sent}
+use Rattle.container_source.specs.Source.{Sent}
 use Rattle.container_source_theorems.specs.Run as sending
 use Rattle.unit_source.specs.Source as unit-source
 use Rattle.unit_source.specs.declared.State as unit-source-state
-use Rattle.unit_source.specs.declared.Made.{Made}
+use Rattle.unit_source.specs.Source.{Made}
 use Rattle.unit_source_theorems.specs.Sending as stream
 use Rattle.settles_stream.specs.InOrder.{boxes, violated_told}
 use Rattle.settings.specs.declared.Settings.{Settings}
 use Rattle.sink.specs.Sink as sink
 use Rattle.sink.specs.declared.State as sink-state
-use Rattle.sink.specs.declared.Received.{Received}
+use Rattle.sink.specs.Sink.{Received}
 use Rattle.sink_theorems.specs.Reach as reach
 
 -- ---- the run
@@ -206,9 +205,9 @@ pub record Good (noneBefore : ℕ) (s : Shape) (m : Making) (r : Run) : Type 0 w
 -- settles within so many units, by its log
 pub record Settles (within : ℕ) (s : Shape) (r : Run) (g : Log) : Type 0 where
   -- no call is refused, of either source or of the sink
-  pub made_done : (k : ℕ) → (g.sent k).answer ≡ Done
-  pub sent_done : (n : ℕ) → (g.made n).answer ≡ Done
-  pub fed_done : (n : ℕ) → (g.received n).answer ≡ Done
+  pub made_done : (k : ℕ) → (g.sent k).answer ≡ Ok tt
+  pub sent_done : (n : ℕ) → (g.made n).answer ≡ Ok tt
+  pub fed_done : (n : ℕ) → (g.received n).answer ≡ Ok tt
   -- "At most 66 units of that run end unsettled"
   pub few : (n : ℕ) → unsettled g.received n ≤ within
   -- "and the card's own unsettled total rises by exactly their number, up to its cap"

@@ -8,8 +8,7 @@ use lib.ListN.{length, get_or}
 use Rattle.word.specs.Word.{word_of}
 use Rattle.refusals.specs.Refusals.{answer_says, answer_of}
 use Rattle.refusals.specs.declared.Refusal.{Refusal}
-use Rattle.refusals.specs.declared.Answer.{Answer}
-use Rattle.refusals.specs.declared.Answer.TheVariants.{Done, Refused}
+use Rattle.std.specs.Prelude.{Result, Ok, Err, ⊤}
 use Rattle.refusals.proofs.Wrong.{outcome_done, outcome_refused, outcome_said}
 use Rattle.shape.specs.Shape.{Fit}
 use Rattle.shape.specs.declared.Shape.{Shape}
@@ -27,20 +26,15 @@ use Rattle.settings.specs.declared.Settings.{Settings}
 use Rattle.receiving.specs.Receiving.{UnitOutcome, begin_in, from_in, silence}
 use Rattle.receiving.specs.Inner.{Receivable, NormalOutcomeIs}
 use Rattle.receiving.specs.declared.AfterUnit.{AfterUnit}
-use Rattle.unit_end.specs.Terms.{has, or_any, and_all, and_none, termination}
+use Rattle.unit_end.specs.Terms.{termination}
 use Rattle.unit_end.specs.Actions.{defects_of, ssf_of, actions_of, causes_of}
 use Rattle.unit_end.specs.Settled.{settled_of, total_of}
-use Rattle.settings.specs.Flags.{flags_of}
-use Rattle.settings.specs.declared.Flags.{Flags}
-use Rattle.trace_monitor.specs.Trace.{blank_trace}
-use Rattle.monitor.specs.Monitoring.{blank_of}
 use Rattle.unit_end.specs.declared.Defects.{Defects}
 use Rattle.unit_end.specs.declared.Actions.{Actions}
 use Rattle.unit_end.specs.declared.Causes.{Causes}
-use Rattle.sink.specs.Sink.{sink_faults, word_in, pointed, unit_outcome, told, refusing, ReceivedOutcome, sink, ReceivesAs, Receives}
+use Rattle.sink.specs.Sink.{sink_faults, word_in, pointed, unit_outcome, Received, told, received_by, refusing, ReceivedOutcome, sink, ReceivesAs, Receives}
 use Rattle.sink.specs.Inner.{Fed, Pointed, UnitOutcomeIs}
 use Rattle.sink.specs.declared.State.{State}
-use Rattle.sink.specs.declared.Received.{Received}
 use Rattle.sink.proofs.Refuses.{Ranged, ranged, numbered, fed}
 
 -- ---- the word
@@ -109,56 +103,32 @@ pub unit_told : (p : Pointer) (total : ℕ) (left : AfterUnit) (e : Settings)
     → normal ≡ is_normal p.state → alarm ≡ is_alarm p.state → defects ≡ defects_of left.monitor
     → settled ≡ settled_of normal left.monitor e → after ≡ total_of total settled
     → actions ≡ actions_of termination (not normal) defects → causes ≡ causes_of termination alarm (not normal && not alarm) defects e.flags
-    → record {
-      answer = Done;
-      state = record { pointer = p; held = left.held; monitor = left.monitor; total = after };
-      ended = left.ended;
-      actions = actions;
-      defects = defects;
-      causes = causes;
-      settled = settled;
-    }
+    → received_by (Ok (record { ended = left.ended; actions = actions; defects = defects; causes = causes; settled = settled })) (record { pointer = p; held = left.held; monitor = left.monitor; total = after })
     ≡ told p total left e
-unfolding told
+unfolding told received_by
 unit_told p total left e normal alarm settled defects actions causes after n a d s t c k =
     let lost = ap (λ (b : Bool). not b && not (is_alarm p.state)) n ∙ lost_is p.state in
     let ssf = ap not n ∙ ssf_is p.state in
     rw (k, c, t, s, d, a, lost, ssf, n) refl
 
-pub told_none : (state : State) (x : Refusal) (none : AfterUnit) (defects : Defects) (actions : Actions) (f : Flags) (causes : Causes)
-    → none ≡ silence → defects ≡ defects_of none.monitor → f ≡ flags_of 0 → actions ≡ actions_of termination false defects → causes ≡ causes_of termination false false defects f
-    → record {
-      answer = Refused x;
-      state = state;
-      ended = none.ended;
-      actions = actions;
-      defects = defects;
-      causes = causes;
-      settled = false;
-    }
-    ≡ refusing state x
-unfolding refusing silence blank_of blank_trace flags_of defects_of actions_of causes_of has or_any and_all and_none
-told_none state x none defects actions f causes h d g a c = rw (a, c, g, d, h) refl
-
 -- ---- the call
 
 module _ (s : Shape) (state : State) (e : Settings) (unit held done : List ℕ)
-    (r : Answer) (r-is : r ≡ answer_of (sink_faults s state e (length unit) (length held) (length done)))
+    (r : Result ⊤ Refusal) (r-is : r ≡ answer_of (sink_faults s state e (length unit) (length held) (length done)))
   where
-    pub feed_refused : (x : Refusal) (q : Received) → r ≡ Refused x → q ≡ refusing state x → ReceivesAs s state e unit held done q held done
-    unfolding sink
-    feed_refused x q h q-is =
-        rw (outcome_refused (sink_faults s state e (length unit) (length held) (length done)) _ _ x (sym r-is ∙ h), q-is) refl
+    pub feed_refused : (x : Refusal) → r ≡ Err x → ReceivesAs s state e unit held done (received_by (Err x) state) held done
+    unfolding sink received_by
+    feed_refused x h = rw (outcome_refused (sink_faults s state e (length unit) (length held) (length done)) _ _ x (sym r-is ∙ h)) refl
 
     -- nothing is wrong with it
-    pub feed_fine : r ≡ Done → Fed s state (length unit) (length held) (length done)
+    pub feed_fine : r ≡ Ok tt → Fed s state (length unit) (length held) (length done)
     feed_fine h = fed s state e (length unit) (length held) (length done) (sym r-is ∙ h)
 
     -- so that its word is there
-    pub word_there : Fit s → r ≡ Done → s.step < length unit
+    pub word_there : Fit s → r ≡ Ok tt → s.step < length unit
     word_there f h = omega (arith, (feed_fine h).unit_is, f.some, f.two)
 
-    module _ (h : r ≡ Done) (a : AfterWord) (a-is : a ≡ pointed s state.pointer unit) where
+    module _ (h : r ≡ Ok tt) (a : AfterWord) (a-is : a ≡ pointed s state.pointer unit) where
       pub feed_pointed : Fit s → Pointed s state a unit held done
       feed_pointed f = record { fit = f; fed = feed_fine h; after_is = a-is }
 

@@ -1,13 +1,12 @@
 -- The sink: one call, as a function of all that it is given. 01, from "Reading one pointer word" to "Refusal numbers". Each part is a machine of its own:
 -- how a word is taken (`pointer_rules`), the pointer (`pointer`), the cut of a unit (`cut`), what is watched in a container (`monitor`), what a unit leaves (`receiving`),
 -- what is told of it (`unit_end`). Here they are put in order.
-use Rattle.std.specs.Prelude.{◌≡◌, ℕ, Bool, false, cond, not, ◌||◌, List, [], ◌∷◌, ◌++◌, eqb, length, get_or}
+use Rattle.std.specs.Prelude.{◌≡◌, ℕ, Bool, false, cond, not, ◌||◌, List, [], ◌∷◌, ◌++◌, eqb, length, get_or, Result, Ok, Err, ⊤}
 use Rattle.word.specs.Word.{word_of}
 use Rattle.settings.specs.Faults.{settings_faults}
 use Rattle.refusals.specs.Refusals.{Fault, answer_says, given, said_by, outcome}
 use Rattle.refusals.specs.declared.Refusal.{Refusal}
 use Rattle.refusals.specs.declared.Refusal.TheVariants as wrong
-use Rattle.refusals.specs.declared.Answer.TheVariants.{Done, Refused}
 use Rattle.shape.specs.Shape.{unit_length, held_count}
 use Rattle.shape.specs.declared.Shape.{Shape}
 use Rattle.pointer_state.specs.State.{is_alarm, is_lost, is_normal, offset_of}
@@ -18,11 +17,15 @@ use Rattle.monitor.specs.Monitoring as monitor
 use Rattle.settings.specs.declared.Settings.{Settings}
 use Rattle.receiving.specs.Receiving.{UnitOutcome, received_normal, silence}
 use Rattle.receiving.specs.declared.AfterUnit.{AfterUnit}
+use Rattle.receiving.specs.declared.Ended.{Ended}
+use Rattle.unit_end.specs.declared.Defects.{Defects}
+use Rattle.unit_end.specs.declared.Actions.{Actions}
+use Rattle.unit_end.specs.declared.Causes.{Causes}
 use Rattle.unit_end.specs.Terms.{termination}
 use Rattle.unit_end.specs.Actions.{defects_of, ssf_of, actions_of, causes_of, no_defects, no_actions, no_causes}
 use Rattle.unit_end.specs.Settled.{settled_of, total_of}
 use Rattle.sink.specs.declared.State.{State}
-use Rattle.sink.specs.declared.Received.{Received}
+use Rattle.sink.specs.declared.Report.{Report}
 
 -- "it starts lost, the wait 3, all else 0 or none"
 unfoldable pub fresh_sink : State
@@ -66,6 +69,17 @@ unit_outcome s state a e unit held done =
     (received_normal s a.taken (offset_of a.pointer.state) state.held state.monitor e unit held done)
     (record { after = silence; held = held; done = done })
 
+-- the answer, and the state from then on; of the unit, what ended, the actions, the defects, the causes, and whether it ended settled. Where the call was
+-- refused the state is the old one, and nothing is told of a unit.
+pub record Received : Type 0 where
+  pub answer : Result ⊤ Refusal
+  pub state : State
+  pub ended : Ended
+  pub actions : Actions
+  pub defects : Defects
+  pub causes : Causes
+  pub settled : Bool
+
 -- "Actions and causes are taken at the unit's end", and so are settled and the total
 unfoldable pub told : Pointer → ℕ → AfterUnit → Settings → Received
 told p total u e =
@@ -74,7 +88,7 @@ told p total u e =
     let defects = defects_of u.monitor in
     let settled = settled_of (is_normal p.state) u.monitor e in
     record {
-      answer = Done;
+      answer = Ok tt;
       state = record { pointer = p; held = u.held; monitor = u.monitor; total = total_of total settled };
       ended = u.ended;
       actions = actions_of termination (ssf_of alarm lost) defects;
@@ -95,7 +109,7 @@ pub record ReceivedOutcome : Type 0 where
 unfoldable pub refusing : State → Refusal → Received
 refusing state x =
     record {
-      answer = Refused x;
+      answer = Err x;
       state = state;
       ended = silence.ended;
       actions = no_actions;
@@ -103,6 +117,11 @@ refusing state x =
       causes = no_causes;
       settled = false;
     }
+
+-- what is received, of what the function answers, the report or the refusal, and of the state that it leaves
+unfoldable pub received_by : Result Report Refusal → State → Received
+received_by (Ok r) state = record { answer = Ok tt; state = state; ended = r.ended; actions = r.actions; defects = r.defects; causes = r.causes; settled = r.settled }
+received_by (Err x) state = refusing state x
 
 -- THE SINK. "Nothing lent is written" where it refuses.
 unfoldable pub sink : Shape → State → Settings → List ℕ → List ℕ → List ℕ → ReceivedOutcome

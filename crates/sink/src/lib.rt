@@ -2,16 +2,16 @@
 // The host feeds it one unit after the other; the view of what ended is in the crate `view`.
 #![tactic(auto)]
 
-ghost use Rattle.std.specs.Prelude.{◌≡◌, ◌<◌, length};
+ghost use Rattle.std.specs.Prelude.{◌≡◌, ◌<◌, length, Ok};
 ghost use Rattle.shape.specs.Shape.{au4, Fit};
 ghost use Rattle.refusals.specs.Refusals.{answer_of};
-ghost use Rattle.sink.specs.Sink.{fresh_sink, sink_out_of_range, sink_faults, pointed, told, refusing, ReceivesAs, Receives};
+ghost use Rattle.sink.specs.Sink.{fresh_sink, sink_out_of_range, sink_faults, pointed, told, received_by, ReceivesAs, Receives};
 ghost use Rattle.sink.specs.Inner.{Pointed, UnitOutcomeIs};
 
 use monitor::Monitor;
 use pointer::{AfterWord, Pointer};
 use receiving::{AfterUnit, Ended};
-use refusals::{Answer, Refusal};
+use refusals::Refusal;
 use settings::Settings;
 use shape::Shape;
 use unit_end::{Actions, Causes, Defects};
@@ -25,12 +25,9 @@ pub struct State {
     pub total: u16,
 }
 
-// The answer, and the state from then on; of the unit, what ended, the actions, the defects, the causes, and whether it ended settled. Where the call was
-// refused the state is the old one, and nothing is told of a unit.
+// What is told of a unit: what ended, the actions, the defects, the causes, and whether it ended settled.
 #[derive(Clone, Copy)]
-pub struct Received {
-    pub answer: Answer,
-    pub state: State,
+pub struct Report {
     pub ended: Ended,
     pub actions: Actions,
     pub defects: Defects,
@@ -68,26 +65,28 @@ fn out_of_range(shape: Shape, s: State) -> bool
 }
 
 // The answer to a call, by its state and settings, and the lengths of what it is lent.
-fn answer(shape: Shape, s: State, e: Settings, unit: usize, held: usize, done: usize) -> Answer
+fn answer(
+    shape: Shape,
+    s: State,
+    e: Settings,
+    unit: usize,
+    held: usize,
+    done: usize,
+) -> Result<(), Refusal>
     requires { Fit shape }
     ensures { result ≡ answer_of (sink_faults shape s e unit held done) }
 {
     if out_of_range(shape, s) {
-        return Answer::Refused(Refusal::State);
+        return Err(Refusal::State);
     }
-    match settings::answer(e) {
-        Answer::Refused(x) => {
-            return Answer::Refused(x);
-        }
-        Answer::Done => {}
-    }
+    settings::answer(e)?;
     if unit != 3 * shape.step + shape.size {
-        return Answer::Refused(Refusal::Unit);
+        return Err(Refusal::Unit);
     }
     if (held != shape.size) | (done != shape.size) {
-        return Answer::Refused(Refusal::Container);
+        return Err(Refusal::Container);
     }
-    Answer::Done
+    Ok(())
 }
 
 // The unit's word, read: how it is taken, and the pointer after it.
@@ -133,9 +132,9 @@ fn take_unit(
     receiving::silent()
 }
 
-// What is told of the unit at its end.
-fn tell(p: Pointer, total: u16, u: AfterUnit, e: Settings) -> Received
-    ensures { result ≡ told p total u e }
+// The state at the unit's end, and what is told of the unit.
+fn tell(s: &mut State, p: Pointer, u: AfterUnit, e: Settings) -> Report
+    ensures { received_by (Ok result) s.new ≡ told p s.old.total u e }
 {
     let state = p.state;
     let flags = e.flags;
@@ -145,15 +144,13 @@ fn tell(p: Pointer, total: u16, u: AfterUnit, e: Settings) -> Received
     let ended = u.ended;
     let defects = unit_end::defects_of(m);
     let settled = unit_end::settled(normal, m, e);
-    let s = State {
+    *s = State {
         pointer: p,
         held: u.held,
         monitor: m,
-        total: unit_end::total_after(total, settled),
+        total: unit_end::total_after(s.total, settled),
     };
-    Received {
-        answer: Answer::Done,
-        state: s,
+    Report {
         ended,
         actions: unit_end::actions_of(!normal, defects),
         defects,
@@ -162,53 +159,34 @@ fn tell(p: Pointer, total: u16, u: AfterUnit, e: Settings) -> Received
     }
 }
 
-// Nothing is told of a unit: what is told where none was, of a monitor that has seen nothing.
-fn refuse(s: State, x: Refusal) -> Received
-    ensures { result ≡ refusing s x }
-{
-    let none = receiving::silent();
-    let ended = none.ended;
-    let m = none.monitor;
-    let defects = unit_end::defects_of(m);
-    Received {
-        answer: Answer::Refused(x),
-        state: s,
-        ended,
-        actions: unit_end::actions_of(false, defects),
-        defects,
-        causes: unit_end::causes_of(false, false, defects, settings::flags_of(0)),
-        settled: false,
-    }
-}
-
 // One unit of any shape.
 fn feed(
     shape: Shape,
-    s: State,
+    s: &mut State,
     e: Settings,
     unit: &[u8],
     held: &mut [u8],
     done: &mut [u8],
-) -> Received
+) -> Result<Report, Refusal>
     requires { Fit shape }
-    ensures { ReceivesAs shape s e unit.now held.old done.old result held.new done.new }
+    ensures { ReceivesAs shape s.old e unit.now held.old done.old (received_by result s.new) held.new done.new }
 {
-    match answer(shape, s, e, unit.len(), held.len(), done.len()) {
-        Answer::Refused(x) => {
-            return refuse(s, x);
-        }
-        Answer::Done => {}
-    }
-    let before = s.pointer;
-    let a = point(shape, before, unit);
-    let u = take_unit(shape, s, a, e, unit, held, done);
-    let after = a.pointer;
-    tell(after, s.total, u, e)
+    let before = *s;
+    answer(shape, before, e, unit.len(), held.len(), done.len())?;
+    let a = point(shape, before.pointer, unit);
+    let u = take_unit(shape, before, a, e, unit, held, done);
+    Ok(tell(s, a.pointer, u, e))
 }
 
-// The next unit of an AU-4. Refuses 8, 4, 5, 1, 3.
-pub fn sink(s: State, e: Settings, unit: &[u8], held: &mut [u8], done: &mut [u8]) -> Received
-    ensures { Receives au4 s e unit.now held.old done.old result held.new done.new }
+// The next unit of an AU-4: its report, and the state after it. Refuses 8, 4, 5, 1, 3: then state and bytes are as they were.
+pub fn sink(
+    s: &mut State,
+    e: Settings,
+    unit: &[u8],
+    held: &mut [u8],
+    done: &mut [u8],
+) -> Result<Report, Refusal>
+    ensures { Receives au4 s.old e unit.now held.old done.old (received_by result s.new) held.new done.new }
 {
     feed(shape::au4_shape(), s, e, unit, held, done)
 }

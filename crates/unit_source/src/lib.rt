@@ -5,10 +5,10 @@
 ghost use Rattle.std.specs.Prelude.{◌≡◌, length};
 ghost use Rattle.shape.specs.Shape.{au4, Fit};
 ghost use Rattle.refusals.specs.Refusals.{answer_of};
-ghost use Rattle.unit_source.specs.Source.{fresh_unit_source, adjusts, source_out_of_range, make_faults, word_sent, unit_sent, source_wait_after, MakesAs, Makes};
+ghost use Rattle.unit_source.specs.Source.{fresh_unit_source, adjusts, source_out_of_range, make_faults, word_sent, unit_sent, source_wait_after, made_by, MakesAs, Makes};
 ghost use Rattle.unit_source.specs.Inner.{Ready};
 
-use refusals::{Answer, Refusal};
+use refusals::Refusal;
 use shape::{Adjustment, Shape};
 
 // A source between two units: its offset, and the units since the last adjustment, as far as 3.
@@ -16,14 +16,6 @@ use shape::{Adjustment, Shape};
 pub struct State {
     pub offset: u16,
     pub wait: u8,
-}
-
-// The answer; how many of the two containers ended, 0 where the call was refused; and the state from then on, the old one where it was.
-#[derive(Clone, Copy)]
-pub struct Made {
-    pub answer: Answer,
-    pub ended: u8,
-    pub state: State,
 }
 
 // A source that has sent nothing: at offset 0, free to adjust.
@@ -50,23 +42,30 @@ fn out_of_range(top: u16, s: State) -> bool
 }
 
 // The answer to a call, by its state, what is asked, and the lengths of what it is lent.
-fn answer(shape: Shape, s: State, a: Adjustment, current: usize, next: usize, unit: usize) -> Answer
+fn answer(
+    shape: Shape,
+    s: State,
+    a: Adjustment,
+    current: usize,
+    next: usize,
+    unit: usize,
+) -> Result<(), Refusal>
     requires { Fit shape }
     ensures { result ≡ answer_of (make_faults shape s a current next unit) }
 {
     if out_of_range(shape.top, s) {
-        return Answer::Refused(Refusal::State);
+        return Err(Refusal::State);
     }
     if (current != shape.size) | (next != shape.size) {
-        return Answer::Refused(Refusal::Container);
+        return Err(Refusal::Container);
     }
     if unit != 3 * shape.step + shape.size {
-        return Answer::Refused(Refusal::Unit);
+        return Err(Refusal::Unit);
     }
     if is_adjustment(a) & (s.wait < 3) {
-        return Answer::Refused(Refusal::Adjustment);
+        return Err(Refusal::Adjustment);
     }
-    Answer::Done
+    Ok(())
 }
 
 // The pointer word: the offset, with its I bits inverted for an increment and its D bits for a decrement.
@@ -101,37 +100,37 @@ fn wait_after(a: Adjustment, wait: u8) -> u8
     }
 }
 
-// One unit of any shape, of the current container and the next.
-fn make(shape: Shape, s: State, a: Adjustment, current: &[u8], next: &[u8], unit: &mut [u8]) -> Made
+// One unit of any shape, of the current container and the next: how many of the two ended.
+fn make(
+    shape: Shape,
+    s: &mut State,
+    a: Adjustment,
+    current: &[u8],
+    next: &[u8],
+    unit: &mut [u8],
+) -> Result<u8, Refusal>
     requires { Fit shape }
-    ensures { MakesAs shape s a current.now next.now unit.old result unit.new }
+    ensures { MakesAs shape s.old a current.now next.now unit.old (made_by result s.new) unit.new }
 {
-    match answer(shape, s, a, current.len(), next.len(), unit.len()) {
-        Answer::Refused(x) => {
-            return Made {
-                answer: Answer::Refused(x),
-                ended: 0,
-                state: s,
-            };
-        }
-        Answer::Done => {}
-    }
-    let offset = s.offset;
-    let wait = s.wait;
-    write(shape, a, offset, current, next, unit);
-    Made {
-        answer: Answer::Done,
-        ended: shape::ended_by(a, offset),
-        state: State {
-            offset: shape::offset_after(shape.top, a, offset),
-            wait: wait_after(a, wait),
-        },
-    }
+    let before = *s;
+    answer(shape, before, a, current.len(), next.len(), unit.len())?;
+    write(shape, a, before.offset, current, next, unit);
+    let offset = shape::offset_after(shape.top, a, before.offset);
+    let wait = wait_after(a, before.wait);
+    *s = State { offset, wait };
+    Ok(shape::ended_by(a, before.offset))
 }
 
-// The next unit of an AU-4: all 2358 bytes are written. Refuses 8, 3, 1, 7.
-pub fn unit_source(s: State, a: Adjustment, current: &[u8], next: &[u8], unit: &mut [u8]) -> Made
-    ensures { Makes au4 s a current.now next.now unit.old result unit.new }
+// The next unit of an AU-4: all 2358 bytes are written, and the state is the one after it. Answers how many of the two containers ended. Refuses 8, 3, 1, 7: then unit and
+// state are as they were.
+pub fn unit_source(
+    s: &mut State,
+    a: Adjustment,
+    current: &[u8],
+    next: &[u8],
+    unit: &mut [u8],
+) -> Result<u8, Refusal>
+    ensures { Makes au4 s.old a current.now next.now unit.old (made_by result s.new) unit.new }
 {
     make(shape::au4_shape(), s, a, current, next, unit)
 }
