@@ -2,9 +2,6 @@
 #![tactic(auto)]
 
 use bench_say::{Hex, Numbered, Output};
-use catalogue::{Checked, Found};
-use exporting::Exported;
-use importing::Imported;
 
 #[derive(Clone, Copy)]
 enum Question {
@@ -63,27 +60,31 @@ impl Question {
 }
 
 fn numbered(x: records::Refusal) -> Numbered {
-    let places = records::named(x);
     Numbered {
-        number: records::number(x),
-        places: [places.first, places.second],
+        number: x.number(),
+        places: x.places().numbers(),
     }
 }
 
 fn check<P: Print>(out: &mut Output<P>, s: &[u8]) {
     let c = catalogue::check(s);
     match c.checked {
-        Checked::Good(n) => write!(out, "cat ok {n}"),
-        Checked::Refused(x) => write!(out, "cat refused {}", numbered(x)),
+        Ok(n) => write!(out, "cat ok {n}"),
+        Err(x) => write!(out, "cat refused {}", numbered(x)),
     }
     writeln!(out, " pairs={}", c.pairs);
 }
 
 fn look_up<P: Print>(out: &mut Output<P>, number: u32, s: &[u8]) {
-    let l = catalogue::lookup(s, number);
-    match l.found {
-        Found::Entry(label, flags) => writeln!(out, "found {label:02X} {} {flags}", Hex(&l.trace)),
-        Found::Not(x) => writeln!(out, "lookup refused {}", numbered(x)),
+    match catalogue::lookup(s, number) {
+        Ok(entry) => writeln!(
+            out,
+            "found {:02X} {} {}",
+            entry.label,
+            Hex(&entry.trace),
+            entry.flags,
+        ),
+        Err(x) => writeln!(out, "lookup refused {}", numbered(x)),
     }
 }
 
@@ -105,15 +106,14 @@ fn say_bytes<P: Print>(out: &mut Output<P>, what: &str, s: &[u8]) {
 fn import<P: Print>(out: &mut Output<P>, s: &[u8]) {
     let mut made = [0u8; 10752];
     match importing::import(s, &mut made) {
-        Imported::Good(k) => {
+        Ok(k) => {
             let n = 21 * k;
             say_bytes(out, "import ok", &made[..n]);
         }
-        Imported::Refused(x) => {
-            let places = sheet_refusals::named(x);
+        Err(x) => {
             let why = Numbered {
-                number: sheet_refusals::number(x),
-                places: [places.first, places.second],
+                number: x.number(),
+                places: x.places().numbers(),
             };
             writeln!(out, "import refused {why}");
         }
@@ -123,8 +123,8 @@ fn import<P: Print>(out: &mut Output<P>, s: &[u8]) {
 fn export<P: Print>(out: &mut Output<P>, s: &[u8]) {
     let mut made = [0u8; 23552];
     match exporting::export(s, &mut made) {
-        Exported::Text(n) => say_bytes(out, "export ok", &made[..n]),
-        Exported::Not(x) => writeln!(out, "export refused {}", numbered(x)),
+        Ok(n) => say_bytes(out, "export ok", &made[..n]),
+        Err(x) => writeln!(out, "export refused {}", numbered(x)),
     }
 }
 

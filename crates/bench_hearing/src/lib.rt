@@ -5,13 +5,13 @@ use bench_line::Buffer;
 use bench_say::{Fnv, Names, Output};
 use receiving::{Ended, Told};
 use settings::Settings;
-use sink::Received;
+use sink::Report;
 use std::fmt;
 use std::fmt::{Display, Formatter};
 
 // `rx`: says at once that every call with these settings will be refused, where it will.
 pub fn say_order<P: Print>(out: &mut Output<P>, e: Settings) {
-    out.is_done("rx refused", settings::answer(e));
+    let _ = out.done("rx refused", settings::answer(e));
 }
 
 // The pointer's state and its offset.
@@ -80,26 +80,26 @@ impl Receiver {
 
     // `sink`: the sink is fed the unit.
     pub fn feed<P: Print>(&mut self, out: &mut Output<P>, settings: Settings, unit: &[u8]) {
-        let r = sink::sink(
-            self.sink,
+        let answer = sink::sink(
+            &mut self.sink,
             settings,
             unit,
             self.held.bytes_mut(),
             self.done.bytes_mut(),
         );
-        if !out.is_done("refused", r.answer) {
+        let Some(report) = out.done("refused", answer) else {
             return;
-        }
-        self.sink = r.state;
+        };
+        let ended = report.ended;
         write!(
             out,
             "ok {} held={} ended={}",
-            Shown(r.state.pointer.state),
-            r.state.held,
-            r.ended.number,
+            Shown(self.sink.pointer.state),
+            self.sink.held,
+            ended.number,
         );
-        say_containers(out, r.ended, self.done.bytes(), unit, &mut self.last);
-        say_report(out, r);
+        say_containers(out, ended, self.done.bytes(), unit, &mut self.last);
+        say_report(out, report, self.sink.total);
         writeln!(
             out,
             " hb={} db={}",
@@ -112,7 +112,7 @@ impl Receiver {
     pub fn payload<P: Print>(&self, out: &mut Output<P>, ais: bool) {
         let mut bytes = [0xeeu8; 2340];
         let answer = container::payload_call(&self.last, ais, &mut bytes);
-        if out.is_done("payload refused", answer) {
+        if out.done("payload refused", answer).is_some() {
             writeln!(out, "payload fnv={}", Fnv(&bytes));
         }
     }
@@ -153,7 +153,7 @@ fn say_containers<'a, P: Print>(
 }
 
 // What the sink reports at a unit's end.
-fn say_report<P: Print>(out: &mut Output<P>, r: Received) {
+fn say_report<P: Print>(out: &mut Output<P>, r: Report, total: u16) {
     let actions = r.actions;
     write!(
         out,
@@ -181,10 +181,5 @@ fn say_report<P: Print>(out: &mut Output<P>, r: Received) {
         (causes.plm, "cPLM"),
     ];
     write!(out, " d={} cause={}", Names(&defects), Names(&causes));
-    write!(
-        out,
-        " settled={} total={}",
-        u8::from(r.settled),
-        r.state.total,
-    );
+    write!(out, " settled={} total={total}", u8::from(r.settled),);
 }

@@ -2,7 +2,7 @@
 // What standard output does not take is lost; `failure` says that there was some.
 #![tactic(auto)]
 
-use refusals::Answer;
+use refusals::Refusal;
 use std::fmt::{Display, Formatter};
 use std::io::ErrorKind;
 use std::{fmt, io};
@@ -44,17 +44,17 @@ impl<P: Print> Output<P> {
         self.failure
     }
 
-    // Whether a call was done; where it was refused, that is said.
-    pub fn is_done(&mut self, refused: &str, answer: Answer) -> bool {
+    // What a call answers; where it is refused, that is said.
+    pub fn done<T: Drop>(&mut self, refused: &str, answer: Result<T, Refusal>) -> Option<T> {
         match answer {
-            Answer::Done => true,
-            Answer::Refused(_) => {
+            Ok(answer) => Some(answer),
+            Err(why) => {
                 let why = Numbered {
-                    number: refusals::number(answer),
-                    places: [refusals::place(answer), 0],
+                    number: refusals::number(Err(why)),
+                    places: (refusals::place(Err(why)), 0),
                 };
                 writeln!(self, "{refused} {why}");
-                false
+                None
             }
         }
     }
@@ -64,13 +64,14 @@ impl<P: Print> Output<P> {
 #[derive(Clone, Copy)]
 pub struct Numbered {
     pub number: u8,
-    pub places: [usize; 2],
+    pub places: (usize, usize),
 }
 
 impl Display for Numbered {
     fn fmt<W: fmt::Write>(&self, f: &mut Formatter<W>) -> fmt::Result {
         write!(f, "{}", self.number)?;
-        for place in self.places {
+        let (first, second) = self.places;
+        for place in [first, second] {
             if 0 < place {
                 write!(f, " {place}")?;
             }

@@ -6,7 +6,7 @@ ghost use Rattle.std.specs.Prelude.{◌<◌};
 use bench_line::Buffer;
 use bench_say::{Fnv, Output};
 use container_source::{Given, Unexamined};
-use refusals::{Answer, Refusal};
+use refusals::Refusal;
 use shape::Adjustment;
 
 // What the container source is given with each payload.
@@ -35,17 +35,18 @@ impl Sent {
     }
 
     // What every container will be refused for, in the order in which the container source refuses.
-    fn answer(self) -> Answer {
+    fn answer(self) -> Result<(), Refusal> {
         let characters = self.trace;
-        match settings::path_answer(self.label, &characters) {
-            Answer::Done if 8 < self.violations => Answer::Refused(Refusal::Violations),
-            answer => answer,
+        settings::path_answer(self.label, &characters)?;
+        if 8 < self.violations {
+            return Err(Refusal::Violations);
         }
+        Ok(())
     }
 
     // `tx`: says at once that every container will be refused, where it will.
     pub fn say_order<P: Print>(self, out: &mut Output<P>) {
-        out.is_done("tx refused", self.answer());
+        let _ = out.done("tx refused", self.answer());
     }
 }
 
@@ -82,36 +83,31 @@ impl Sender {
         }
     }
 
-    // The next payload's container, into a place of the queue; whether the source has taken it.
-    fn fill_place<P: Print>(&mut self, out: &mut Output<P>, sent: Sent, place: usize) -> bool
+    // The next payload's container, into a place of the queue; none where the source refuses it.
+    fn fill_place<P: Print>(&mut self, out: &mut Output<P>, sent: Sent, place: usize) -> Option<()>
         requires { place < 2 }
     {
         let characters = sent.trace;
         let bytes = payload(self.seed);
-        let made = container_source::container_source(
-            self.containers,
+        let answer = container_source::container_source(
+            &mut self.containers,
             sent.given(),
             &characters,
             &bytes,
             &mut self.queue[place],
         );
-        let is_done = out.is_done("container refused", made.answer);
-        if is_done {
-            self.containers = made.state;
-            self.seed = self.seed.wrapping_add(1);
-        }
-        is_done
+        out.done("container refused", answer)?;
+        self.seed = self.seed.wrapping_add(1);
+        Some(())
     }
 
-    // The queue, filled to two containers; whether it is.
-    fn fill<P: Print>(&mut self, out: &mut Output<P>, sent: Sent) -> bool {
+    // The queue, filled to two containers.
+    fn fill<P: Print>(&mut self, out: &mut Output<P>, sent: Sent) -> Option<()> {
         for place in self.queued..2 {
-            if !self.fill_place(out, sent, place) {
-                return false;
-            }
+            self.fill_place(out, sent, place)?;
             self.queued = place + 1;
         }
-        true
+        Some(())
     }
 
     // `src`: the queue filled, and the next unit written.
@@ -122,28 +118,30 @@ impl Sender {
         adjustment: Adjustment,
         line: &mut Buffer,
     ) {
-        if !self.fill(out, sent) {
-            return;
+        if self.fill(out, sent).is_some() {
+            line.resize(2358);
+            self.write_unit(out, adjustment, line.bytes_mut());
         }
-        line.resize(2358);
+    }
+
+    // The next unit, of the two containers.
+    fn write_unit<P: Print>(
+        &mut self,
+        out: &mut Output<P>,
+        adjustment: Adjustment,
+        unit: &mut [u8],
+    ) {
         let [first, second] = &self.queue;
-        let made = unit_source::unit_source(
-            self.units,
-            adjustment,
-            first,
-            second,
-            line.bytes_mut(),
-        );
-        if !out.is_done("unit refused", made.answer) {
+        let answer = unit_source::unit_source(&mut self.units, adjustment, first, second, unit);
+        let Some(ended) = out.done("unit refused", answer) else {
             return;
-        }
-        self.units = made.state;
-        say_unit(out, line.bytes(), made.ended, made.state.offset);
+        };
+        say_unit(out, unit, ended, self.units.offset);
         // where one container ended, the second becomes the first
-        if made.ended == 1 {
+        if ended == 1 {
             self.queue[0] = self.queue[1];
         }
-        self.queued = self.queued.saturating_sub(usize::from(made.ended));
+        self.queued = self.queued.saturating_sub(usize::from(ended));
     }
 }
 

@@ -1,17 +1,16 @@
 // Exports a catalogue from standard input as comma-separated text; for a refused catalogue it prints the one line of its refusal.
 #![tactic(auto)]
 
-use exporting::Exported;
 use programs::{InWords, Program};
 
 fn export<E: Print>(program: &Program<E>, out: &impl Print, catalogue: &[u8]) {
     let mut text = [0u8; 23552];
     match exporting::export(catalogue, &mut text) {
-        Exported::Text(n) => program.print(out, &text[..n]),
-        Exported::Not(why) => program.refuse(
+        Ok(n) => program.print(out, &text[..n]),
+        Err(why) => program.refuse(
             out,
-            records::number(why),
-            records::named(why),
+            why.number(),
+            why.places(),
             InWords {
                 what: "record",
                 why,

@@ -1,7 +1,6 @@
 // Imports comma-separated text from standard input: prints the catalogue, or for a refused text the one line of its refusal.
 #![tactic(auto)]
 
-use importing::Imported;
 use programs::{InWords, Program};
 use sheet_line::LineFault;
 use sheet_refusals::Refusal;
@@ -81,22 +80,17 @@ impl Display for TextInWords {
 }
 
 fn refuse<E: Print>(program: &Program<E>, out: &impl Print, why: Refusal) {
-    program.refuse(
-        out,
-        sheet_refusals::number(why),
-        sheet_refusals::named(why),
-        TextInWords(why),
-    );
+    program.refuse(out, why.number(), why.places(), TextInWords(why));
 }
 
 fn import<E: Print>(program: &Program<E>, out: &impl Print, text: &[u8]) {
     let mut catalogue = [0u8; 10752];
     match importing::import(text, &mut catalogue) {
-        Imported::Good(k) => {
+        Ok(k) => {
             let n = 21 * k;
             program.print(out, &catalogue[..n]);
         }
-        Imported::Refused(why) => refuse(program, out, why),
+        Err(why) => refuse(program, out, why),
     }
 }
 

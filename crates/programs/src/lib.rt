@@ -4,7 +4,7 @@
 
 ghost use Rattle.std.specs.Prelude.{◌≤◌, length};
 
-use records::{PlaceList, Refusal};
+use records::{Places, Refusal};
 use refusals::TraceFault;
 use std::env::{Env, FillError};
 use std::fmt;
@@ -86,7 +86,7 @@ impl<E: Print> Program<E> {
         &self,
         out: &impl Print,
         number: u8,
-        places: PlaceList,
+        places: Places,
         words: D,
     ) {
         let mut line = [0u8; 46];

@@ -10,7 +10,8 @@ use Rattle.text.specs.Inner.{Written, Short, Within}
 use Rattle.text.proofs.Digits.{length_most}
 use Rattle.text.proofs.Pieces.{length_written, written_none}
 use Rattle.text.proofs.Within.{within, within_number, within_then}
-use Rattle.records.specs.declared.PlaceList.{PlaceList}
+use Rattle.records.specs.declared.Places.{Places}
+use Rattle.records.specs.declared.Places.TheVariants.{Nowhere, One, Two}
 use Rattle.records.specs.Refusals.{places_in}
 use Rattle.refusal_line.specs.RefusalLine.{blank_before, refusal_line}
 
@@ -25,30 +26,23 @@ module _ (b m : List ℕ) (at i p : ℕ) (h : at + 21 ≤ length b) (w : Written
 
 -- ---- no place, one, and two
 
--- two, or more, which no refusal names
-all_of : (p : PlaceList) → 2 ≤ p.count → places_in p ≡ p.first ∷ p.second ∷ []
-unfolding places_in
-all_of p h = take_all p.count (p.first ∷ p.second ∷ []) h
-
-module _ (b : List ℕ) (p : PlaceList) (at : ℕ) where
-  pub places_none : p.count ≡ 0 → Within 42 at (blank_before (places_in p)) b b at
-  unfolding blank_before places_in
+module _ (b : List ℕ) (p : Places) (at : ℕ) where
+  pub places_none : p ≡ Nowhere → Within 42 at (blank_before (places_in p)) b b at
+  unfolding blank_before
   places_none e = rw e (within 42 (written_none at b) (omega arith))
 
-  pub places_one : (a : List ℕ) (n : ℕ) → p.count ≡ 1 → Within 21 at (0x20 ∷ decimal_of p.first) b a n → Within 42 at (blank_before (places_in p)) b a n
-  unfolding blank_before places_in
-  places_one a n e w = rw (e, append-nil) (record { written = w.written; short = omega arith })
-
-  pub places_two : (m a : List ℕ) (i n : ℕ) → (p.count ≡ 0 → ⊥) → (p.count ≡ 1 → ⊥) → at + 42 ≤ length b
-      → Within 21 at (0x20 ∷ decimal_of p.first) b m i → Within 21 i (0x20 ∷ decimal_of p.second) m a n → Within 42 at (blank_before (places_in p)) b a n
+  pub places_one : (first : ℕ) (a : List ℕ) (n : ℕ) → p ≡ One first → Within 21 at (0x20 ∷ decimal_of first) b a n → Within 42 at (blank_before (places_in p)) b a n
   unfolding blank_before
-  places_two m a i n no-0 no-1 h w v =
-      let both : places_in p ≡ p.first ∷ p.second ∷ [] = all_of p (omega arith) in
-      rw (both, append-nil) (within_then w v (omega arith))
+  places_one first a n e w = rw (e, append-nil) (record { written = w.written; short = omega arith })
+
+  pub places_two : (first second : ℕ) (m a : List ℕ) (i n : ℕ) → p ≡ Two first second → at + 42 ≤ length b
+      → Within 21 at (0x20 ∷ decimal_of first) b m i → Within 21 i (0x20 ∷ decimal_of second) m a n → Within 42 at (blank_before (places_in p)) b a n
+  unfolding blank_before
+  places_two first second m a i n e h w v = rw (e, append-nil) (within_then w v (omega arith))
 
 -- ---- the line
 
-pub refusal_written : (number : ℕ) (p : PlaceList) (b m m' a : List ℕ) (i j n y : ℕ) → 46 ≤ length b → Short 3 number y
+pub refusal_written : (number : ℕ) (p : Places) (b m m' a : List ℕ) (i j n y : ℕ) → 46 ≤ length b → Short 3 number y
     → Written 0 (decimal_of y) b m i → Within 42 i (blank_before (places_in p)) m m' j → Written j (0x0a ∷ []) m' a n
     → Within 46 0 (refusal_line number (places_in p)) b a n
 unfolding refusal_line

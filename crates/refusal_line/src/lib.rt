@@ -2,13 +2,13 @@
 // What it is stands in specs/RefusalLine.antt.
 #![tactic(auto)]
 
-ghost use Rattle.std.specs.Prelude.{◌≡◌, ◌∷◌, ◌+◌, ◌<◌, ◌≤◌, length};
+ghost use Rattle.std.specs.Prelude.{◌≡◌, ◌∷◌, ◌+◌, ◌≤◌, length};
 ghost use Rattle.text.specs.Text.{decimal_of};
 ghost use Rattle.text.specs.Inner.{Short, Within, Written};
 ghost use Rattle.records.specs.Refusals.{places_in};
 ghost use Rattle.refusal_line.specs.RefusalLine.{blank_before, refusal_line};
 
-use records::PlaceList;
+use records::Places;
 
 // A place, with a blank before it.
 fn place(out: &mut [u8], at: usize, p: usize) -> usize
@@ -20,36 +20,29 @@ fn place(out: &mut [u8], at: usize, p: usize) -> usize
 }
 
 // The places that a refusal names, in their order.
-fn places(out: &mut [u8], at: usize, p: PlaceList) -> usize
+fn places(out: &mut [u8], at: usize, p: Places) -> usize
     requires { at + 42 ≤ length out.old }
     ensures { Within 42 at (blank_before (places_in p)) out.old out.new result }
 {
-    if p.count == 0 {
-        return at;
+    match p {
+        Places::Nowhere => at,
+        Places::One(first) => place(out, at, first),
+        Places::Two(first, second) => {
+            let a = place(out, at, first);
+            place(out, a, second)
+        }
     }
-    let a = place(out, at, p.first);
-    if p.count == 1 {
-        return a;
-    }
-    place(out, a, p.second)
-}
-
-// A byte as a number of 64 bits.
-fn wide(x: u8) -> u64
-    ensures { (result ≡ x) × (result < 256) }
-{
-    x as u64
 }
 
 // A refusal's number, of at most three digits.
 fn digits(x: u8) -> u64
     ensures { Short 3 x result }
 {
-    wide(x)
+    u64::from(x)
 }
 
 // The line; the answer is its length.
-pub fn write(out: &mut [u8], number: u8, p: PlaceList) -> usize
+pub fn write(out: &mut [u8], number: u8, p: Places) -> usize
     requires { 46 ≤ length out.old }
     ensures { Within 46 0 (refusal_line number (places_in p)) out.old out.new result }
 {

@@ -1,8 +1,0 @@
--- `records::circuit_refused` meets its contract. Assumes nothing.
-use Rattle.records.specs.Record.{circuit_refused}
-use mathlib.Core.Path.{refl}
-use Rattle.records.proofs.circuit_refused.Goals as goal
-
-pub returns : goal.returns
-unfolding circuit_refused
-returns c = refl
