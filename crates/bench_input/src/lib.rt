@@ -1,180 +1,101 @@
-// Lines out of standard input, each as soon as its LF has come. They stand in a buffer of the caller's, which is one byte longer than the longest line.
+// Lines out of standard input, each as soon as its LF has come.
 #![tactic(auto)]
 
-ghost use Rattle.std.specs.Prelude.{◌+◌, ◌≤◌, length};
+ghost use Rattle.std.specs.Prelude.{◌+◌, ◌≤◌};
 
-use bench_script::least;
+use std::io;
 use std::io::Read;
 
-// What was read and not played yet stands in the buffer from `from` to `to`; `end` is where the line under way ends, once that is known. A line that does not fit is long, and
-// its bytes are dropped. Behind the end of the input there is no more to read.
+// One byte more than the longest line, for its LF.
+const MOST: usize = 100001;
+
+// What was read and not handed out yet stands in the buffer from `from` to `to`. A line that does not fit is long, and its bytes are dropped. Behind the end of the input
+// there is no more to read.
+#[derive(Drop)]
+pub struct Lines<R> {
+    reader: R,
+    buffer: [u8; MOST],
+    from: usize,
+    to: usize,
+    long: bool,
+    ended: bool,
+    ghost within: { (from ≤ to) × (to ≤ 100001) },
+}
+
+// A line without its LF.
 #[derive(Clone, Copy)]
-pub struct Pending {
-    pub from: usize,
-    pub to: usize,
-    pub end: usize,
-    pub long: bool,
-    pub ended: bool,
+pub enum Line<'a> {
+    Whole(&'a [u8]),
+    // of more than 100,000 bytes
+    TooLong,
 }
 
-pub fn nothing() -> Pending {
-    Pending {
-        from: 0,
-        to: 0,
-        end: 0,
-        long: false,
-        ended: false,
-    }
-}
-
-// Whether there is no line: the input has ended, and nothing of it is left.
-pub fn is_over(p: Pending) -> bool {
-    p.ended & !p.long & (p.to <= p.from)
-}
-
-// The place of the LF that ends the line under way; where that has not come, the end of all that was read.
-fn line_end(p: Pending, input: &[u8]) -> usize {
-    let to = least(p.to, input.len());
-    let from = least(p.from, to);
-    bench_script::find(&input[..to], from, 0x0a)
-}
-
-// So many bytes from a place on, moved to the front.
-fn move_front(input: &mut [u8], from: usize, n: usize)
-    requires { from + n ≤ length input.old }
-{
-    let mut i = 0;
-    while i < n {
-        let b = input[from + i];
-        input[i] = b;
-        i += 1;
-    }
-}
-
-// What is under way at the front of the buffer; none of it where it fills the buffer, since the line is then too long.
-fn at_front(p: Pending, input: &mut [u8]) -> Pending {
-    let to = least(p.to, input.len());
-    let from = least(p.from, to);
-    let n = to - from;
-    if n == input.len() {
-        return Pending {
+impl<R: Read> Lines<R> {
+    pub fn new(reader: R) -> Lines<R> {
+        Lines {
+            reader,
+            buffer: [0; MOST],
             from: 0,
             to: 0,
-            end: 0,
-            long: true,
-            ended: false,
-        };
-    }
-    if 0 < from {
-        move_front(input, from, n);
-    }
-    Pending {
-        from: 0,
-        to: n,
-        end: n,
-        long: p.long,
-        ended: false,
-    }
-}
-
-fn end_of_input(p: Pending) -> Pending {
-    Pending {
-        from: p.from,
-        to: p.to,
-        end: p.to,
-        long: p.long,
-        ended: true,
-    }
-}
-
-// How many bytes a read gave, and whether it failed.
-#[derive(Clone, Copy)]
-struct Got {
-    bytes: usize,
-    failed: bool,
-}
-
-// One read. A failure is said.
-fn read<R: Read>(reader: &mut R, errors: &impl Print, part: &mut [u8]) -> Got {
-    match reader.read(part) {
-        Ok(bytes) => Got {
-            bytes,
-            failed: false,
-        },
-        Err(_) => {
-            bench_say::complain(errors, b"bench: standard input cannot be read\n");
-            Got {
-                bytes: 0,
-                failed: true,
-            }
-        }
-    }
-}
-
-// One read more, behind what is under way. Where it fails nothing more is played.
-fn more<R: Read>(reader: &mut R, errors: &impl Print, p: Pending, input: &mut [u8]) -> Pending {
-    let q = at_front(p, input);
-    let at = least(q.to, input.len());
-    let got = read(reader, errors, &mut input[at..]);
-    if got.failed {
-        return end_of_input(nothing());
-    }
-    if got.bytes == 0 {
-        return end_of_input(q);
-    }
-    let to = least(got.bytes, input.len() - at) + at;
-    Pending {
-        from: 0,
-        to,
-        end: to,
-        long: q.long,
-        ended: false,
-    }
-}
-
-// The next line: it stands from `from` to `end`. A proved loop has to end, and nothing says that the input does: so the reads are counted, up to a number that no run comes to.
-pub fn next_line<R: Read>(
-    reader: &mut R,
-    errors: &impl Print,
-    before: Pending,
-    input: &mut [u8; 100001],
-) -> Pending {
-    let mut p = before;
-    for _ in 0..u64::MAX {
-        let e = line_end(p, input);
-        if e < p.to {
-            return Pending {
-                from: p.from,
-                to: p.to,
-                end: e,
-                long: p.long,
-                ended: false,
-            };
-        }
-        if p.ended {
-            return p;
-        }
-        p = more(reader, errors, p, input);
-    }
-    p
-}
-
-// Once a line is played: what is left of the input behind it.
-pub fn behind(p: Pending) -> Pending {
-    if p.ended {
-        return Pending {
-            from: p.to,
-            to: p.to,
-            end: p.to,
             long: false,
-            ended: true,
-        };
+            ended: false,
+        }
     }
-    Pending {
-        from: least(p.end, usize::MAX - 1) + 1,
-        to: p.to,
-        end: p.to,
-        long: false,
-        ended: false,
+
+    // What is under way goes to the front of the buffer; none of it where it fills the buffer, since the line is then too long.
+    fn move_front(&mut self) {
+        let n = self.to - self.from;
+        if n == MOST {
+            self.long = true;
+            self.from = 0;
+            self.to = 0;
+            return;
+        }
+        self.buffer.copy_within(self.from..self.to, 0);
+        self.from = 0;
+        self.to = n;
+    }
+
+    // One read more, behind what is under way.
+    fn read_on(&mut self) -> io::Result<()> {
+        self.move_front();
+        let n = self.reader.read(&mut self.buffer[self.to..])?;
+        self.to += n;
+        self.ended = n == 0;
+        Ok(())
+    }
+
+    // The line under way, of n bytes; the next begins behind `taken`.
+    fn hand_out(&mut self, n: usize, taken: usize) -> Line<'_>
+        requires { (n ≤ taken) × (self.old.from + taken ≤ self.old.to) }
+    {
+        let start = self.from;
+        let long = self.long;
+        self.from += taken;
+        self.long = false;
+        if long {
+            return Line::TooLong;
+        }
+        let all = &*self;
+        Line::Whole(&all.buffer[start..start + n])
+    }
+
+    // The next line; none behind the last. A proved loop has to end, and nothing says that the input does: so the reads are counted, up to a number that no run comes to.
+    pub fn next_line(&mut self) -> io::Result<Option<Line<'_>>> {
+        for _ in 0..u64::MAX {
+            let under_way = &self.buffer[self.from..self.to];
+            let n = under_way.len();
+            if let Some(end) = under_way.iter().position(|b| *b == b'\n') {
+                return Ok(Some(self.hand_out(end, end + 1)));
+            }
+            if self.ended {
+                if (n == 0) & !self.long {
+                    return Ok(None);
+                }
+                return Ok(Some(self.hand_out(n, n)));
+            }
+            self.read_on()?;
+        }
+        Ok(None)
     }
 }

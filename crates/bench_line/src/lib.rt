@@ -1,154 +1,93 @@
-// Commands about the line, the unit under way: its word overwritten, a byte damaged, all ones, its length, its bytes shown.
+// Commands about the line, the unit under way: its word overwritten, a byte damaged, all ones, its length, its bytes shown. And the buffers that the bench holds.
 #![tactic(auto)]
 
-use bench_say::Output;
-use bench_script::least;
+ghost use Rattle.std.specs.Prelude.{◌≤◌, ◌≡◌, length};
 
-// Whether a line of the script was such a command, and how long the bench's line is then.
-#[derive(Clone, Copy)]
-pub struct Changed {
-    pub is_own: bool,
-    pub length: usize,
-}
+use bench_say::{Hex, Output};
 
-// The commands, each by a number; 0 is none.
-const WORD: u8 = 1;
+const MOST: usize = 4096;
 
-const XOR: u8 = 2;
-
-const ONES: u8 = 3;
-
-const LEN: u8 = 4;
-
-const SHOW: u8 = 5;
-
-// The command of a line of n words.
-fn command(s: &[u8], n: usize) -> u8 {
-    if (n == 2) & bench_script::is(s, 0, b"word") {
-        return WORD;
-    }
-    if (n == 3) & bench_script::is(s, 0, b"xor") {
-        return XOR;
-    }
-    if (n == 1) & bench_script::is(s, 0, b"ones") {
-        return ONES;
-    }
-    if (n == 2) & bench_script::is(s, 0, b"len") {
-        return LEN;
-    }
-    if (n == 1) & bench_script::is(s, 0, b"show") {
-        return SHOW;
-    }
-    0
-}
-
-// The bytes of `line` from a place on, as far as another, become 00.
-pub fn clear(line: &mut [u8], from: usize, to: usize) {
-    let e = least(to, line.len());
-    let a = least(from, e);
-    copier::fill(&mut line[a..e], 0);
-}
-
-fn overwrite<P: Print>(out: &mut Output<P>, s: &[u8], number: u64, unit: &mut [u8]) {
-    let w = bench_script::hex(s, 1, 2);
-    if !w.good {
-        bench_say::unknown(out, number);
-        return;
-    }
-    if unit.len() < 4 {
-        bench_say::unknown(out, number);
-        return;
-    }
-    unit[0] = (w.value / 256 % 256) as u8;
-    unit[3] = (w.value % 256) as u8;
-}
-
-fn damage<P: Print>(out: &mut Output<P>, s: &[u8], number: u64, unit: &mut [u8]) {
-    let i = bench_script::decimal(s, 1, 4095);
-    let b = bench_script::hex(s, 2, 1);
-    let k = i.value as usize;
-    if !(i.good & b.good) {
-        bench_say::unknown(out, number);
-        return;
-    }
-    if unit.len() <= k {
-        bench_say::unknown(out, number);
-        return;
-    }
-    unit[k] = unit[k] ^ (b.value % 256) as u8;
-}
-
-fn show<P: Print>(out: &mut Output<P>, unit: &[u8]) {
-    bench_say::text(out, b"line ");
-    bench_say::all(out, unit);
-    bench_say::text(out, b"\n");
-}
-
-// `len`: how long the line is then.
-fn measure<P: Print>(
-    out: &mut Output<P>,
-    s: &[u8],
-    number: u64,
+// Up to 4096 bytes: as many as `length` says.
+#[derive(Drop)]
+pub struct Buffer {
+    bytes: [u8; MOST],
     length: usize,
-    line: &mut [u8],
-) -> usize {
-    let n = bench_script::decimal(s, 1, 4096);
-    if !n.good {
-        bench_say::unknown(out, number);
-        return length;
-    }
-    let k = n.value as usize;
-    clear(line, length, k);
-    k
 }
 
-// One of the commands; how long the line is then.
-fn on_line<P: Print>(
-    out: &mut Output<P>,
-    code: u8,
-    s: &[u8],
-    number: u64,
-    length: usize,
-    line: &mut [u8],
-) -> usize {
-    let n = least(length, line.len());
-    if code == WORD {
-        overwrite(out, s, number, &mut line[..n]);
-        return length;
-    }
-    if code == XOR {
-        damage(out, s, number, &mut line[..n]);
-        return length;
-    }
-    if code == ONES {
-        copier::fill(&mut line[..n], 0xff);
-        return length;
-    }
-    if code == SHOW {
-        show(out, &line[..n]);
-        return length;
-    }
-    measure(out, s, number, length, line)
-}
-
-// The command of a line of n words, where it is one about the bench's line.
-pub fn change<P: Print>(
-    out: &mut Output<P>,
-    s: &[u8],
-    n: usize,
-    number: u64,
-    length: usize,
-    line: &mut [u8],
-) -> Changed {
-    let code = command(s, n);
-    if code == 0 {
-        return Changed {
-            is_own: false,
+impl Buffer {
+    // So many bytes, all the same.
+    pub fn of(byte: u8, length: usize) -> Buffer {
+        Buffer {
+            bytes: [byte; MOST],
             length,
-        };
+        }
     }
-    Changed {
-        is_own: true,
-        length: on_line(out, code, s, number, length, line),
+
+    pub fn bytes(&self) -> &[u8] {
+        &self.bytes[..self.length.min(MOST)]
+    }
+
+    pub fn bytes_mut(&mut self) -> &mut [u8] {
+        let length = self.length.min(MOST);
+        &mut self.bytes[..length]
+    }
+
+    // Cut, or lengthened with 00.
+    pub fn resize(&mut self, length: usize) {
+        let length = length.min(MOST);
+        if self.length < length {
+            self.bytes[self.length..length].fill(0);
+        }
+        self.length = length;
+    }
+}
+
+// The commands.
+#[derive(Clone, Copy)]
+pub enum Command {
+    // H1 and H2
+    Word(u8, u8),
+    // a place, and what its byte is exclusive-ored with
+    Xor(usize, u8),
+    Ones,
+    Len(usize),
+    Show,
+}
+
+impl Command {
+    pub fn of(words: &[&[u8]]) -> Option<Command> {
+        match words {
+            [b"word", word] => {
+                let [high, low] = bench_script::exactly::<2>(word)?;
+                Some(Command::Word(high, low))
+            }
+            [b"xor", place, byte] => {
+                let place = bench_script::decimal(place, 4095)?;
+                let [byte] = bench_script::exactly::<1>(byte)?;
+                Some(Command::Xor(place as usize, byte))
+            }
+            [b"ones"] => Some(Command::Ones),
+            [b"len", length] => Some(Command::Len(bench_script::decimal(length, 4096)? as usize)),
+            [b"show"] => Some(Command::Show),
+            _ => None,
+        }
+    }
+
+    // Nothing is changed where the line is too short for it.
+    pub fn play<P: Print>(self, out: &mut Output<P>, line: &mut Buffer) -> Option<()> {
+        match self {
+            Command::Word(high, low) => {
+                let [h1, _, _, h2, ..] = line.bytes_mut() else {
+                    return None;
+                };
+                *h1 = high;
+                *h2 = low;
+            }
+            Command::Xor(place, byte) => *line.bytes_mut().get_mut(place)? ^= byte,
+            Command::Ones => line.bytes_mut().fill(0xff),
+            Command::Len(length) => line.resize(length),
+            Command::Show => writeln!(out, "line {}", Hex(line.bytes())),
+        }
+        Some(())
     }
 }

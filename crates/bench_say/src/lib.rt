@@ -1,170 +1,126 @@
-// What the bench prints, piece after piece. Nothing of the card rests on this crate, nor on the bench's others.
-// A piece that standard output does not take is lost; `failed` says that there was one.
+// What the bench prints, a line or a part of one at a time. Nothing of the card rests on this crate, nor on the bench's others.
+// What standard output does not take is lost; `failure` says that there was some.
 #![tactic(auto)]
 
-use std::io;
+use refusals::Refusal;
+use std::fmt::{Display, Formatter};
 use std::io::ErrorKind;
+use std::{fmt, io};
 
-// Where the bench prints: standard output, whether it has not taken a piece so far, and whether that was because its reader has gone.
+// Where the bench prints: standard output, and why it has not taken the first piece that it did not take.
 #[derive(Drop)]
 pub struct Output<P> {
     to: P,
-    failed: bool,
-    gone: bool,
+    failure: Option<ErrorKind>,
 }
 
 impl<P: Print> Output<P> {
     pub fn new(to: P) -> Output<P> {
-        Output {
-            to,
-            failed: false,
-            gone: false,
+        Output { to, failure: None }
+    }
+
+    fn note(&mut self, taken: io::Result<()>) {
+        if let Err(e) = taken {
+            if self.failure.is_none() {
+                self.failure = Some(e.kind());
+            }
+        }
+    }
+
+    // What `write!` and `writeln!` call.
+    pub fn write_fmt<D: Display + Drop>(&mut self, piece: D) {
+        let taken = self.to.print(piece);
+        self.note(taken);
+    }
+
+    // Bytes as they are.
+    pub fn bytes(&mut self, piece: &[u8]) {
+        let taken = self.to.write_all(piece);
+        self.note(taken);
+    }
+
+    // Why a piece was not taken, where one was not so far.
+    pub fn failure(&self) -> Option<ErrorKind> {
+        self.failure
+    }
+
+    // What a call answers; where it is refused, that is said.
+    pub fn done<T: Drop>(&mut self, refused: &str, answer: Result<T, Refusal>) -> Option<T> {
+        match answer {
+            Ok(answer) => Some(answer),
+            Err(why) => {
+                let why = Numbered {
+                    number: refusals::number(Err(why)),
+                    places: (refusals::place(Err(why)), 0),
+                };
+                writeln!(self, "{refused} {why}");
+                None
+            }
         }
     }
 }
 
-// What came of a piece. The first that is not taken says why.
-fn note<P: Print>(out: &mut Output<P>, taken: io::Result<()>) {
-    if let Err(e) = taken {
-        if !out.failed {
-            out.failed = true;
-            out.gone = e.kind() == ErrorKind::BrokenPipe;
+// A refusal's number, and behind it the places that it names, at most two, 0 for none.
+#[derive(Clone, Copy)]
+pub struct Numbered {
+    pub number: u8,
+    pub places: (usize, usize),
+}
+
+impl Display for Numbered {
+    fn fmt<W: fmt::Write>(&self, f: &mut Formatter<W>) -> fmt::Result {
+        write!(f, "{}", self.number)?;
+        let (first, second) = self.places;
+        for place in [first, second] {
+            if 0 < place {
+                write!(f, " {place}")?;
+            }
         }
+        Ok(())
     }
 }
 
-pub fn text<P: Print>(out: &mut Output<P>, s: &[u8]) {
-    let taken = out.to.write_all(s);
-    note(out, taken);
-}
+// Bytes in hex, two capital digits each.
+#[derive(Clone, Copy)]
+pub struct Hex<'a>(pub &'a [u8]);
 
-// What is wrong with the bench's own input or output, or with how it was started. Where standard error does not take it, it is lost.
-pub fn complain(errors: &impl Print, s: &[u8]) {
-    let _ = errors.write_all(s);
-}
-
-// Whether a piece was not taken so far.
-pub fn failed<P: Print>(out: &Output<P>) -> bool {
-    out.failed
-}
-
-// Whether it was not taken because standard output is a pipe whose reader has gone.
-pub fn gone<P: Print>(out: &Output<P>) -> bool {
-    out.gone
-}
-
-pub fn decimal<P: Print>(out: &mut Output<P>, n: u64) {
-    let taken = out.to.print(n);
-    note(out, taken);
-}
-
-pub fn bit<P: Print>(out: &mut Output<P>, b: bool) {
-    if b {
-        text(out, b"1");
-        return;
-    }
-    text(out, b"0");
-}
-
-// A byte in two capital hex digits.
-pub fn hex<P: Print>(out: &mut Output<P>, b: u8) {
-    let mut digits = [0u8; 2];
-    text::hex(&mut digits, 0, b);
-    text(out, &digits);
-}
-
-// The bytes, one after the other.
-pub fn all<P: Print>(out: &mut Output<P>, s: &[u8]) {
-    for b in s {
-        hex(out, *b);
+impl Display for Hex<'_> {
+    fn fmt<W: fmt::Write>(&self, f: &mut Formatter<W>) -> fmt::Result {
+        for byte in self.0 {
+            write!(f, "{byte:02X}")?;
+        }
+        Ok(())
     }
 }
 
-fn comma<P: Print>(out: &mut Output<P>, any: bool) {
-    if any {
-        text(out, b",");
+// 32-bit FNV-1a of bytes, in eight capital digits.
+#[derive(Clone, Copy)]
+pub struct Fnv<'a>(pub &'a [u8]);
+
+impl Display for Fnv<'_> {
+    fn fmt<W: fmt::Write>(&self, f: &mut Formatter<W>) -> fmt::Result {
+        let mut hash = 2166136261u32;
+        for byte in self.0 {
+            hash = (hash ^ u32::from(*byte)).wrapping_mul(16777619);
+        }
+        write!(f, "{hash:08X}")
     }
 }
 
-// One of a list of names, where it stands. Whether any stands so far.
-pub fn listed<P: Print>(out: &mut Output<P>, any: bool, stands: bool, name: &[u8]) -> bool {
-    if !stands {
-        return any;
+// Of a list of names those that stand, a comma between them; - where none does.
+#[derive(Clone, Copy)]
+pub struct Names<'a>(pub &'a [(bool, &'a str)]);
+
+impl Display for Names<'_> {
+    fn fmt<W: fmt::Write>(&self, f: &mut Formatter<W>) -> fmt::Result {
+        let mut any = false;
+        for (stands, name) in self.0 {
+            if *stands {
+                let comma = if any { "," } else { "" };
+                write!(f, "{comma}{name}")?;
+                any = true;
+            }
+        }
+        if any { Ok(()) } else { write!(f, "-") }
     }
-    comma(out, any);
-    text(out, name);
-    true
-}
-
-// The end of such a list.
-pub fn listed_all<P: Print>(out: &mut Output<P>, any: bool) {
-    if !any {
-        text(out, b"-");
-    }
-}
-
-// A line that is not understood.
-pub fn unknown<P: Print>(out: &mut Output<P>, number: u64) {
-    text(out, b"? ");
-    decimal(out, number);
-    text(out, b"\n");
-}
-
-// A place, where there is one.
-fn place<P: Print>(out: &mut Output<P>, p: usize) {
-    if 0 < p {
-        text(out, b" ");
-        decimal(out, p as u64);
-    }
-}
-
-// What was refused, the refusal's number, and the places that it names, at most two, 0 for none.
-pub fn refusal<P: Print>(
-    out: &mut Output<P>,
-    what: &[u8],
-    number: u8,
-    first: usize,
-    second: usize,
-) {
-    text(out, what);
-    decimal(out, number as u64);
-    place(out, first);
-    place(out, second);
-}
-
-// The same as a line.
-pub fn refused<P: Print>(
-    out: &mut Output<P>,
-    what: &[u8],
-    number: u8,
-    first: usize,
-    second: usize,
-) {
-    refusal(out, what, number, first, second);
-    text(out, b"\n");
-}
-
-fn multiplied(x: u32) -> u32 {
-    (x as u64 * 16777619 % 4294967296) as u32
-}
-
-fn stirred(h: u32, b: u8) -> u32 {
-    multiplied(h ^ b as u32)
-}
-
-// A number in eight digits.
-fn eight<P: Print>(out: &mut Output<P>, h: u32) {
-    hex(out, (h / 16777216) as u8);
-    hex(out, (h / 65536 % 256) as u8);
-    hex(out, (h / 256 % 256) as u8);
-    hex(out, (h % 256) as u8);
-}
-
-// 32-bit FNV-1a of the bytes, in eight digits.
-pub fn fnv<P: Print>(out: &mut Output<P>, s: &[u8]) {
-    let mut h = 2166136261u32;
-    for b in s {
-        h = stirred(h, *b);
-    }
-    eight(out, h);
 }

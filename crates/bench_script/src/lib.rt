@@ -1,398 +1,156 @@
-// One line of a script: its words, and the numbers, bytes and traces that they stand for. A word is named by its place, the command's name being 0; one that is not there
-// has no bytes. Any bytes may be given. docs/BENCH.md has the language.
+// One line of a script: its words, and the numbers, bytes and traces that they stand for. Any bytes may be given. docs/BENCH.md has the language.
 #![tactic(auto)]
 
-ghost use Rattle.std.specs.Prelude.{◌+◌, ◌≤◌, ◌<◌, length};
+ghost use Rattle.std.specs.Prelude.{◌≤◌, ◌<◌, length, IfSome};
 
-// A number that was read; not good where there was none.
-#[derive(Clone, Copy)]
-pub struct Number {
-    pub good: bool,
-    pub value: u32,
-}
+const BLANK: u8 = b' ';
 
-fn none() -> Number {
-    Number {
-        good: false,
-        value: 0,
-    }
-}
-
-const BLANK: u8 = 0x20;
-
-const QUOTE: u8 = 0x22;
-
-const COMMENT: u8 = 0x23;
-
-const CR: u8 = 0x0d;
-
-pub fn least(a: usize, b: usize) -> usize
-    ensures { (result ≤ a) × (result ≤ b) }
-{
-    if a < b { a } else { b }
-}
-
-// The place of the first byte b, at `from` or after it; the end where there is none.
-pub fn find(s: &[u8], from: usize, b: u8) -> usize
-    requires { from ≤ length s.now }
-    ensures { (from ≤ result) × (result ≤ length s.now) }
-{
-    let mut i = from;
-    while i < s.len() {
-        if s[i] == b {
-            return i;
-        }
-        i += 1;
-    }
-    i
-}
+const QUOTE: u8 = b'"';
 
 // ---- a line and its words
 
-// How many bytes of a script's first line are the mark of UTF-8: three or none.
-fn mark(s: &[u8]) -> usize {
-    if s.len() < 3 {
-        return 0;
-    }
-    if (s[0] == 0xef) & (s[1] == 0xbb) & (s[2] == 0xbf) {
-        return 3;
-    }
-    0
+// The words of the longest command, and one more.
+const MOST: usize = 6;
+
+// The words of a line up to its comment, a word with # in front. Of a line with more words than any command has, the first ones.
+#[derive(Drop)]
+pub struct Words<'a> {
+    words: [&'a [u8]; MOST],
+    count: usize,
+    ghost within: { count ≤ 6 },
 }
 
-// Where a line ends that may have a CR at its end.
-fn before_cr(s: &[u8]) -> usize
+impl<'a> Words<'a> {
+    // Of a line that may end in a CR, and begin with the mark of UTF-8 where it is a script's first.
+    pub fn of(line: &'a [u8], is_first: bool) -> Words<'a> {
+        let mut words: [&'a [u8]; MOST] = [b""; MOST];
+        let mut rest = without_mark(line.strip_suffix(b"\r").unwrap_or(line), is_first);
+        for count in 0..MOST {
+            let Some((word, behind)) = first_word(rest) else {
+                return Words { words, count };
+            };
+            words[count] = word;
+            rest = behind;
+        }
+        Words { words, count: MOST }
+    }
+
+    pub fn as_slice(&self) -> &[&'a [u8]] {
+        &self.words[..self.count]
+    }
+}
+
+fn without_mark(line: &[u8], is_first: bool) -> &[u8] {
+    match line {
+        [0xef, 0xbb, 0xbf, unmarked @ ..] if is_first => unmarked,
+        _ => line,
+    }
+}
+
+// The first word of a line, and what stands behind it.
+fn first_word(line: &[u8]) -> Option<(&[u8], &[u8])> {
+    let start = line.iter().position(|b| *b != BLANK)?;
+    let word = &line[start..];
+    match word {
+        [b'#', ..] => None,
+        _ => Some(word.split_at(word_length(word))),
+    }
+}
+
+// How long the word is that begins here. Blanks between its quotes are its own, and what stands behind the closing one too, up to the next blank.
+fn word_length(s: &[u8]) -> usize
     ensures { result ≤ length s.now }
 {
-    let n = s.len();
-    if n == 0 {
-        return 0;
-    }
-    if s[n - 1] == CR { n - 1 } else { n }
+    let open = match s {
+        [QUOTE, quoted @ ..] => from_closing(quoted),
+        _ => s,
+    };
+    let behind = open.iter().position(|b| *b == BLANK).unwrap_or(open.len());
+    s.len() - open.len() + behind
 }
 
-// Where the blanks end that begin at `from`.
-fn past_blanks(s: &[u8], from: usize) -> usize
-    requires { from ≤ length s.now }
-    ensures { (from ≤ result) × (result ≤ length s.now) }
+// The first of the characters behind an opening quote, two quotes together being one, and what stands behind it; none at a single quote, which ends them.
+fn character(s: &[u8]) -> Option<(u8, &[u8])>
+    ensures { IfSome result (λ p. length p.1.now < length s.now) }
 {
-    let mut i = from;
-    while i < s.len() {
-        if s[i] != BLANK {
-            return i;
-        }
-        i += 1;
+    match s {
+        [QUOTE, QUOTE, behind @ ..] => Some((QUOTE, behind)),
+        [QUOTE, ..] => None,
+        [byte, behind @ ..] => Some((*byte, behind)),
+        [] => None,
     }
-    i
 }
 
-// Of the byte at a place behind an opening quote: how many bytes it takes of the word, 2 of two quotes together and 1 of any other; 0 of a single quote, which ends it.
-fn taken(s: &[u8], i: usize) -> usize
-    requires { i < length s.now }
-    ensures { i + result ≤ length s.now }
+// What stands from the closing quote on.
+fn from_closing(s: &[u8]) -> &[u8]
+    ensures { length result.now ≤ length s.now }
 {
-    if s[i] != QUOTE {
-        return 1;
+    let mut rest = s;
+    while let Some((_, behind)) = character(rest) {
+        rest = behind;
     }
-    if s.len() - i < 2 {
-        return 0;
-    }
-    if s[i + 1] == QUOTE { 2 } else { 0 }
-}
-
-// Where the characters end that stand behind an opening quote: at the closing one, or at the line's end.
-fn closing(s: &[u8], from: usize) -> usize
-    requires { from ≤ length s.now }
-    ensures { (from ≤ result) × (result ≤ length s.now) }
-{
-    let mut i = from;
-    while i < s.len() {
-        let n = taken(s, i);
-        if n < 1 {
-            return i;
-        }
-        i += n;
-    }
-    i
-}
-
-// Where the word ends that begins at `at`. Blanks between its quotes are its own, and what stands behind the closing one too, up to the next blank.
-fn word_end(s: &[u8], at: usize) -> usize
-    requires { at ≤ length s.now }
-    ensures { (at ≤ result) × (result ≤ length s.now) }
-{
-    if at == s.len() {
-        return at;
-    }
-    if s[at] == QUOTE {
-        let e = closing(s, at + 1);
-        return find(s, e, BLANK);
-    }
-    find(s, at, BLANK)
-}
-
-// Where the next word begins behind the one that begins at `at`; the line's end where there is none.
-fn next(s: &[u8], at: usize) -> usize
-    requires { at ≤ length s.now }
-    ensures { (at ≤ result) × (result ≤ length s.now) }
-{
-    let e = word_end(s, at);
-    past_blanks(s, e)
-}
-
-// Where a comment begins, a word with # in front; the line's end where there is none.
-fn comment(s: &[u8]) -> usize
-    ensures { result ≤ length s.now }
-{
-    let mut at = past_blanks(s, 0);
-    let mut left = s.len();
-    while 0 < left {
-        if at == s.len() {
-            return at;
-        }
-        if s[at] == COMMENT {
-            return at;
-        }
-        at = next(s, at);
-        left -= 1;
-    }
-    at
-}
-
-// The commands of a line: without its CR, without the mark of UTF-8 where it is a script's first, without its comment.
-pub fn commands<'a>(s: &'a [u8], first: bool) -> &'a [u8] {
-    let e = before_cr(s);
-    let a = least(if_first(first, mark(s)), e);
-    without_comment(&s[a..e])
-}
-
-fn if_first(first: bool, n: usize) -> usize {
-    if first { n } else { 0 }
-}
-
-fn without_comment<'a>(s: &'a [u8]) -> &'a [u8] {
-    let e = comment(s);
-    &s[..e]
-}
-
-// How many words there are.
-pub fn words(s: &[u8]) -> usize {
-    let mut n = 0;
-    let mut at = past_blanks(s, 0);
-    while n < s.len() {
-        if at == s.len() {
-            return n;
-        }
-        at = next(s, at);
-        n += 1;
-    }
-    n
-}
-
-// Where the word k begins.
-fn start(s: &[u8], k: usize) -> usize
-    ensures { result ≤ length s.now }
-{
-    let mut at = past_blanks(s, 0);
-    let mut left = k;
-    while 0 < left {
-        at = next(s, at);
-        left -= 1;
-    }
-    at
-}
-
-// The word k.
-pub fn word<'a>(s: &'a [u8], k: usize) -> &'a [u8] {
-    let a = start(s, k);
-    let e = word_end(s, a);
-    &s[a..e]
-}
-
-// Whether the word k is this one.
-pub fn is(s: &[u8], k: usize, name: &[u8]) -> bool {
-    trace_message::same(word(s, k), name)
+    rest
 }
 
 // ---- what a word stands for
 
 // One to nine decimal digits, for a number that is at most `most`.
-fn digits(s: &[u8], most: u32) -> Number {
-    if s.len() == 0 {
-        return none();
-    }
-    if 9 < s.len() {
-        return none();
+pub fn decimal(word: &[u8], most: u32) -> Option<u32> {
+    if word.is_empty() || 9 < word.len() {
+        return None;
     }
     let mut n = 0u32;
-    let mut i = 0;
-    while i < s.len() {
-        let b = s[i];
-        if b < 0x30 {
-            return none();
-        }
-        if 0x39 < b {
-            return none();
-        }
-        // never so with nine digits
-        if 100000000 < n {
-            return none();
-        }
-        n = n * 10 + (b - 0x30) as u32;
-        i += 1;
+    for b in word {
+        let digit = char::from(*b).to_digit(10)?;
+        n = n.checked_mul(10)?.checked_add(digit)?;
     }
-    if most < n {
-        return none();
-    }
-    Number {
-        good: true,
-        value: n,
-    }
+    (n <= most).then_some(n)
 }
 
-// The word k as a decimal number.
-pub fn decimal(s: &[u8], k: usize, most: u32) -> Number {
-    digits(word(s, k), most)
+fn pair(high: u8, low: u8) -> Option<u8> {
+    let high = char::from(high).to_digit(16)?;
+    let low = char::from(low).to_digit(16)?;
+    Some((high * 16 + low) as u8)
 }
 
-// The value of a hex digit, in either case; 16 for any other byte.
-fn digit(b: u8) -> u8
-    ensures { result ≤ 16 }
-{
-    if b < 0x30 {
-        return 16;
+// The bytes of hex digits, at the start of `out`; none where a digit is none, one is left over, or `out` is too short.
+pub fn bytes<'a>(word: &[u8], out: &'a mut [u8]) -> Option<&'a [u8]> {
+    let n = word.len() / 2;
+    if word.len() != 2 * n {
+        return None;
     }
-    if b <= 0x39 {
-        return b - 0x30;
+    let out = out.get_mut(..n)?;
+    for (j, byte) in out.iter_mut().enumerate() {
+        *byte = pair(word[2 * j], word[2 * j + 1])?;
     }
-    if b < 0x41 {
-        return 16;
-    }
-    if b <= 0x46 {
-        return b - 0x37;
-    }
-    if b < 0x61 {
-        return 16;
-    }
-    if b <= 0x66 {
-        return b - 0x57;
-    }
-    16
+    Some(out)
 }
 
-// The byte of two hex digits; 256 where they are not.
-fn pair(high: u8, low: u8) -> u16
-    ensures { result ≤ 256 }
-{
-    let h = digit(high);
-    let l = digit(low);
-    if 15 < h {
-        return 256;
-    }
-    if 15 < l {
-        return 256;
-    }
-    h as u16 * 16 + l as u16
+// Exactly N bytes.
+pub fn exactly<const N: usize>(word: &[u8]) -> Option<[u8; N]> {
+    let mut out = [0u8; N];
+    let read = bytes(word, &mut out)?.len();
+    (read == N).then_some(out)
 }
 
-// The bytes of hex digits, into the start of `out`, and how many; not good where a digit is none, one is left over, or `out` is too short.
-fn unhex(s: &[u8], out: &mut [u8]) -> Number {
-    let n = s.len() / 2;
-    if s.len() != 2 * n {
-        return none();
-    }
-    if out.len() < n {
-        return none();
-    }
-    if 1000000 < n {
-        return none();
-    }
-    let mut j = 0;
-    while j < n {
-        let v = pair(s[2 * j], s[2 * j + 1]);
-        if 255 < v {
-            return none();
-        }
-        out[j] = v as u8;
-        j += 1;
-    }
-    Number {
-        good: true,
-        value: n as u32,
-    }
-}
-
-// The word k as bytes.
-pub fn bytes(s: &[u8], k: usize, out: &mut [u8]) -> Number {
-    unhex(word(s, k), out)
-}
-
-fn joined(high: u8, low: u8) -> u32 {
-    high as u32 * 256 + low as u32
-}
-
-// The word k as the number of `size` bytes, the high one first; of at most two.
-pub fn hex(s: &[u8], k: usize, size: u32) -> Number {
-    let mut b = [0u8; 2];
-    let n = bytes(s, k, &mut b);
-    if !n.good {
-        return n;
-    }
-    if n.value != size {
-        return none();
-    }
-    let first = b[0];
-    let second = b[1];
-    if size == 1 {
-        let v = joined(0, first);
-        return Number {
-            good: true,
-            value: v,
+// The characters behind an opening quote, with spaces behind them; none where they are too many, or more stands behind the closing quote.
+fn unquoted<const N: usize>(s: &[u8]) -> Option<[u8; N]> {
+    let mut out = [BLANK; N];
+    let mut rest = s;
+    for place in out.iter_mut() {
+        let Some((byte, behind)) = character(rest) else {
+            break;
         };
+        *place = byte;
+        rest = behind;
     }
-    let v = joined(first, second);
-    Number {
-        good: true,
-        value: v,
-    }
+    matches!(rest, [QUOTE]).then_some(out)
 }
 
-// The characters behind the opening quote of a word that has one, into the start of `out`; good where the closing quote is its last byte and they are not too many.
-fn unquote(s: &[u8], out: &mut [u8]) -> bool {
-    let mut i = 1;
-    let mut j = 0;
-    while i < s.len() {
-        let n = taken(s, i);
-        if n < 1 {
-            return i + 1 == s.len();
-        }
-        if out.len() <= j {
-            return false;
-        }
-        out[j] = s[i];
-        i += n;
-        j += 1;
+// A trace: fifteen bytes in hex, or no more characters than that in quotes.
+pub fn trace(word: &[u8]) -> Option<[u8; 15]> {
+    match word {
+        [QUOTE, quoted @ ..] => unquoted(quoted),
+        _ => exactly(word),
     }
-    false
-}
-
-fn is_quoted(s: &[u8]) -> bool {
-    if s.len() == 0 {
-        return false;
-    }
-    s[0] == QUOTE
-}
-
-fn characters(s: &[u8], out: &mut [u8]) -> bool {
-    if is_quoted(s) {
-        copier::fill(out, BLANK);
-        return unquote(s, out);
-    }
-    let n = unhex(s, out);
-    n.good & (n.value as usize == out.len())
-}
-
-// The word k as a trace: hex digits of as many bytes as `out` has, or no more characters than that in quotes, with spaces behind them.
-pub fn trace(s: &[u8], k: usize, out: &mut [u8]) -> bool {
-    characters(word(s, k), out)
 }

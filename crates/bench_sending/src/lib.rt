@@ -1,22 +1,15 @@
 // The sending half of the bench: a container source and a unit source, a queue of two containers, and what the container source is given.
 #![tactic(auto)]
 
-use bench_say::Output;
-use bench_script::least;
+ghost use Rattle.std.specs.Prelude.{◌<◌};
+
+use bench_line::Buffer;
+use bench_say::{Fnv, Output};
 use container_source::{Given, Unexamined};
 use refusals::Refusal;
 use shape::Adjustment;
 
-// The two sources; how many containers are queued; the seed of the next payload.
-#[derive(Clone, Copy)]
-pub struct Sources {
-    pub containers: container_source::State,
-    pub units: unit_source::State,
-    pub queued: u8,
-    pub seed: u32,
-}
-
-// What the container source is given.
+// What the container source is given with each payload.
 #[derive(Clone, Copy)]
 pub struct Sent {
     pub label: u8,
@@ -25,248 +18,140 @@ pub struct Sent {
     pub remote: bool,
 }
 
-// After a command: the sources, and how long the line is.
-#[derive(Clone, Copy)]
-pub struct Line {
-    pub sources: Sources,
-    pub length: usize,
-}
-
-pub fn fresh() -> Sources {
-    Sources {
-        containers: container_source::fresh(),
-        units: unit_source::fresh(),
-        queued: 0,
-        seed: 0,
-    }
-}
-
-// What every container with these settings will be refused for, in the order in which the container source refuses.
-fn order(x: Sent) -> Result<(), Refusal> {
-    let characters = x.trace;
-    settings::path_answer(x.label, &characters)?;
-    if 8 < x.violations {
-        return Err(Refusal::Violations);
-    }
-    Ok(())
-}
-
-// `tx`: says at once that the settings will be refused, where they will.
-pub fn say_order<P: Print>(out: &mut Output<P>, x: Sent) {
-    let answer = order(x);
-    match answer {
-        Err(_) => {
-            bench_say::refused(
-                out,
-                b"tx refused ",
-                refusals::number(answer),
-                refusals::place(answer),
-                0,
-            );
+impl Sent {
+    fn given(self) -> Given {
+        Given {
+            label: self.label,
+            unexamined: Unexamined {
+                f2: 0x11,
+                h4: 0x22,
+                f3: 0x33,
+                k3: 0x44,
+                n1: 0x55,
+            },
+            violations: self.violations,
+            remote: self.remote,
         }
-        Ok(()) => {}
     }
-}
 
-fn turned(x: u32) -> u32 {
-    ((x as u64 * 1664525 + 1013904223) % 4294967296) as u32
-}
+    // What every container will be refused for, in the order in which the container source refuses.
+    fn answer(self) -> Result<(), Refusal> {
+        let characters = self.trace;
+        settings::path_answer(self.label, &characters)?;
+        if 8 < self.violations {
+            return Err(Refusal::Violations);
+        }
+        Ok(())
+    }
 
-fn top(x: u32) -> u8 {
-    (x / 16777216) as u8
+    // `tx`: says at once that every container will be refused, where it will.
+    pub fn say_order<P: Print>(self, out: &mut Output<P>) {
+        let _ = out.done("tx refused", self.answer());
+    }
 }
 
 // The payload of a seed.
-fn payload(seed: u32, out: &mut [u8]) {
-    let mut x = seed;
-    for b in out.iter_mut() {
-        x = turned(x);
-        *b = top(x);
-    }
-}
-
-fn after(n: u32) -> u32 {
-    ((n as u64 + 1) % 4294967296) as u32
-}
-
-// One container more, into the queue's next place; none where the source refuses it.
-fn queue_one<P: Print>(out: &mut Output<P>, q: Sources, x: Sent, container: &mut [u8]) -> Sources {
+fn payload(seed: u32) -> [u8; 2340] {
     let mut bytes = [0u8; 2340];
-    payload(q.seed, &mut bytes);
-    let given = Given {
-        label: x.label,
-        unexamined: Unexamined {
-            f2: 0x11,
-            h4: 0x22,
-            f3: 0x33,
-            k3: 0x44,
-            n1: 0x55,
-        },
-        violations: x.violations,
-        remote: x.remote,
-    };
-    let characters = x.trace;
-    let mut containers = q.containers;
-    let answer = container_source::container_source(
-        &mut containers,
-        given,
-        &characters,
-        &bytes,
-        container,
-    );
-    match answer {
-        Err(_) => {
-            bench_say::refused(
-                out,
-                b"container refused ",
-                refusals::number(answer),
-                refusals::place(answer),
-                0,
-            );
-            return q;
-        }
-        Ok(()) => {}
+    let mut x = seed;
+    for byte in bytes.iter_mut() {
+        x = x.wrapping_mul(1664525).wrapping_add(1013904223);
+        let [top, _, _, _] = x.to_be_bytes();
+        *byte = top;
     }
-    let queued = if_less(q.queued);
-    let units = q.units;
-    let seed = after(q.seed);
-    Sources {
-        containers,
-        units,
-        queued,
-        seed,
-    }
+    bytes
 }
 
-// One more, of two.
-fn if_less(n: u8) -> u8 {
-    if n < 2 { n + 1 } else { 2 }
+// The two sources, the containers that are queued, as many as `queued` says, and the seed of the next payload.
+#[derive(Drop)]
+pub struct Sender {
+    containers: container_source::State,
+    units: unit_source::State,
+    queue: [[u8; 2349]; 2],
+    queued: usize,
+    seed: u32,
 }
 
-// The queue, filled to two: the first container is its first half.
-fn fill<P: Print>(out: &mut Output<P>, q: Sources, x: Sent, queue: &mut [u8]) -> Sources {
-    let k = least(2349, queue.len());
-    if 1 < q.queued {
-        return q;
-    }
-    if q.queued == 1 {
-        return queue_one(out, q, x, &mut queue[k..]);
-    }
-    let one = queue_one(out, q, x, &mut queue[..k]);
-    if one.queued == 0 {
-        return one;
-    }
-    queue_one(out, one, x, &mut queue[k..])
-}
-
-// Where one container ended, the second becomes the first.
-fn move_up(ended: u8, queue: &mut [u8]) {
-    if ended != 1 {
-        return;
-    }
-    let n = queue.len() / 2;
-    let mut i = 0;
-    while i < n {
-        let b = queue[n + i];
-        queue[i] = b;
-        i += 1;
-    }
-}
-
-fn left_of(queued: u8, ended: u8) -> u8 {
-    if ended < queued { queued - ended } else { 0 }
-}
-
-// H1 and H2.
-fn say_word<P: Print>(out: &mut Output<P>, unit: &[u8]) {
-    if 4 <= unit.len() {
-        bench_say::hex(out, unit[0]);
-        bench_say::hex(out, unit[3]);
-    }
-}
-
-fn say_unit<P: Print>(out: &mut Output<P>, unit: &[u8], ended: u8, offset: u16) {
-    bench_say::text(out, b"unit ended=");
-    bench_say::decimal(out, ended as u64);
-    bench_say::text(out, b" word=");
-    say_word(out, unit);
-    bench_say::text(out, b" fnv=");
-    bench_say::fnv(out, unit);
-    bench_say::text(out, b" off=");
-    bench_say::decimal(out, offset as u64);
-    bench_say::text(out, b"\n");
-}
-
-// The sources after a unit in which so many containers ended.
-fn after_unit(q: Sources, units: unit_source::State, ended: u8) -> Sources {
-    let containers = q.containers;
-    let queued = left_of(q.queued, ended);
-    let seed = q.seed;
-    Sources {
-        containers,
-        units,
-        queued,
-        seed,
-    }
-}
-
-// The next unit, of two queued containers.
-fn next_unit(
-    s: &mut unit_source::State,
-    a: Adjustment,
-    queue: &[u8],
-    unit: &mut [u8],
-) -> Result<u8, Refusal> {
-    let k = least(2349, queue.len());
-    unit_source::unit_source(s, a, &queue[..k], &queue[k..], unit)
-}
-
-fn send_unit<P: Print>(
-    out: &mut Output<P>,
-    q: Sources,
-    a: Adjustment,
-    queue: &mut [u8],
-    unit: &mut [u8],
-) -> Sources {
-    let mut units = q.units;
-    match next_unit(&mut units, a, queue, unit) {
-        Err(x) => {
-            bench_say::refused(
-                out,
-                b"unit refused ",
-                refusals::number(Err(x)),
-                refusals::place(Err(x)),
-                0,
-            );
-            q
-        }
-        Ok(ended) => {
-            say_unit(out, unit, ended, units.offset);
-            move_up(ended, queue);
-            after_unit(q, units, ended)
+impl Sender {
+    pub fn fresh() -> Sender {
+        Sender {
+            containers: container_source::fresh(),
+            units: unit_source::fresh(),
+            queue: [[0; 2349]; 2],
+            queued: 0,
+            seed: 0,
         }
     }
-}
 
-// `src`: the queue filled, and the next unit written.
-pub fn send<P: Print>(
-    out: &mut Output<P>,
-    q: Sources,
-    x: Sent,
-    a: Adjustment,
-    length: usize,
-    queue: &mut [u8],
-    line: &mut [u8],
-) -> Line {
-    let full = fill(out, q, x, queue);
-    if full.queued < 2 {
-        return Line {
-            sources: full,
-            length,
+    // The next payload's container, into a place of the queue; none where the source refuses it.
+    fn fill_place<P: Print>(&mut self, out: &mut Output<P>, sent: Sent, place: usize) -> Option<()>
+        requires { place < 2 }
+    {
+        let characters = sent.trace;
+        let bytes = payload(self.seed);
+        let answer = container_source::container_source(
+            &mut self.containers,
+            sent.given(),
+            &characters,
+            &bytes,
+            &mut self.queue[place],
+        );
+        out.done("container refused", answer)?;
+        self.seed = self.seed.wrapping_add(1);
+        Some(())
+    }
+
+    // The queue, filled to two containers.
+    fn fill<P: Print>(&mut self, out: &mut Output<P>, sent: Sent) -> Option<()> {
+        for place in self.queued..2 {
+            self.fill_place(out, sent, place)?;
+            self.queued = place + 1;
+        }
+        Some(())
+    }
+
+    // `src`: the queue filled, and the next unit written.
+    pub fn send<P: Print>(
+        &mut self,
+        out: &mut Output<P>,
+        sent: Sent,
+        adjustment: Adjustment,
+        line: &mut Buffer,
+    ) {
+        if self.fill(out, sent).is_some() {
+            line.resize(2358);
+            self.write_unit(out, adjustment, line.bytes_mut());
+        }
+    }
+
+    // The next unit, of the two containers.
+    fn write_unit<P: Print>(
+        &mut self,
+        out: &mut Output<P>,
+        adjustment: Adjustment,
+        unit: &mut [u8],
+    ) {
+        let [first, second] = &self.queue;
+        let answer = unit_source::unit_source(&mut self.units, adjustment, first, second, unit);
+        let Some(ended) = out.done("unit refused", answer) else {
+            return;
         };
+        say_unit(out, unit, ended, self.units.offset);
+        // where one container ended, the second becomes the first
+        if ended == 1 {
+            self.queue[0] = self.queue[1];
+        }
+        self.queued = self.queued.saturating_sub(usize::from(ended));
     }
-    bench_line::clear(line, length, 2358);
-    let n = least(2358, line.len());
-    let sources = send_unit(out, full, a, queue, &mut line[..n]);
-    Line { sources, length: n }
+}
+
+// H1 and H2, the word of a unit, in its places 0 and 3.
+fn say_unit<P: Print>(out: &mut Output<P>, unit: &[u8], ended: u8, offset: u16) {
+    if let [h1, _, _, h2, ..] = unit {
+        writeln!(
+            out,
+            "unit ended={ended} word={h1:02X}{h2:02X} fnv={} off={offset}",
+            Fnv(unit),
+        );
+    }
 }

@@ -5,5 +5,5 @@ use Rattle.export.proofs.export.Goals as goal
 pub slice_bounds-text-end : goal.slice_bounds-text-end
 slice_bounds-text-end g c = search text_there
 
-pub slice_bounds-print-end-in-Ok : goal.slice_bounds-print-end-in-Ok
-slice_bounds-print-end-in-Ok g c = search text_part
+pub slice_bounds-print-end : goal.slice_bounds-print-end
+slice_bounds-print-end g c = search text_part

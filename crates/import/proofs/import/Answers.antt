@@ -9,5 +9,5 @@ overflow_mul-n g c = let h : 21 * c.in-Ok.k ≤ 10752 = search good_fits in omeg
 pub slice_bounds-catalogue-end : goal.slice_bounds-catalogue-end
 slice_bounds-catalogue-end g c = search good_there
 
-pub slice_bounds-print-end-in-Ok : goal.slice_bounds-print-end-in-Ok
-slice_bounds-print-end-in-Ok g c = search good_part
+pub slice_bounds-print-end : goal.slice_bounds-print-end
+slice_bounds-print-end g c = search good_part
