@@ -1,27 +1,29 @@
 -- What the pieces of a refusal's line come to.
-use mathlib.Core.Path.{◌≡◌, sym}
-use mathlib.Core.List.{List, [], ◌∷◌, append_assoc, append-nil}
-use Prim.Native.Nat.{ℕ, ◌+◌, ◌≤◌}
+use mathlib.Core.Path.{◌≡◌, refl, sym}
+use mathlib.Core.List.{List, [], ◌∷◌, ◌++◌, append_assoc, append-nil}
+use Prim.Native.Nat.{ℕ, ◌<◌, ◌≤◌}
 use native.Mathlib.Omega.{arith}
 use lib.ListN.{length, take}
 use lib.Seq.{take_all, length-take-le}
 use Rattle.text.specs.Text.{decimal_of}
-use Rattle.text.specs.Inner.{Written, Short, Within}
+use Rattle.text.specs.Inner.{Short, Within}
+use Rattle.text.specs.declared.Writer.{Writer}
+use Rattle.text.specs.Writing.{HasRoom, Wrote, WroteWithin}
 use Rattle.text.proofs.Digits.{length_most}
-use Rattle.text.proofs.Pieces.{length_written, written_none}
-use Rattle.text.proofs.Within.{within, within_number, within_then}
+use Rattle.text.proofs.Pieces.{room_after, wrote_none}
+use Rattle.text.proofs.Within.{begun_within, byte_short, room_within, wider, within, within_number, within_then}
 use Rattle.records.specs.declared.PlaceList.{PlaceList}
 use Rattle.records.specs.Refusals.{places_in}
 use Rattle.refusal_line.specs.RefusalLine.{blank_before, refusal_line}
 
 -- ---- a place
 
-module _ (b m : List ℕ) (at i p : ℕ) (h : at + 21 ≤ length b) (w : Written at (0x20 ∷ []) b m i) where
-  pub place_fits : i + length (decimal_of p) ≤ length m
-  place_fits = omega (arith, length_most p, w.next_is, length_written at i (0x20 ∷ []) b m (omega arith) w)
+module _ (u v : Writer) (p : ℕ) (h : HasRoom 21 u) (x : Wrote (0x20 ∷ []) u v) where
+  pub place_fits : HasRoom (length (decimal_of p)) v
+  place_fits = omega (arith, length_most p, room_after 20 (0x20 ∷ []) u v h x)
 
-  pub place_within : (a : List ℕ) (n : ℕ) → Written i (decimal_of p) m a n → Within 21 at (0x20 ∷ decimal_of p) b a n
-  place_within a n v = within_then (within 1 w (omega arith)) (within 20 v (length_most p)) (omega arith)
+  pub place_within : (w : Writer) → Wrote (decimal_of p) v w → WroteWithin 21 (0x20 ∷ decimal_of p) u w
+  place_within w y = within_then (within 1 x (omega arith)) (within 20 y (length_most p)) (omega arith)
 
 -- ---- no place, one, and two
 
@@ -30,31 +32,56 @@ all_of : (p : PlaceList) → 2 ≤ p.count → places_in p ≡ p.first ∷ p.sec
 unfolding places_in
 all_of p h = take_all p.count (p.first ∷ p.second ∷ []) h
 
-module _ (b : List ℕ) (p : PlaceList) (at : ℕ) where
-  pub places_none : p.count ≡ 0 → Within 42 at (blank_before (places_in p)) b b at
+module _ (u : Writer) (p : PlaceList) where
+  pub places_none : p.count ≡ 0 → WroteWithin 42 (blank_before (places_in p)) u u
   unfolding blank_before places_in
-  places_none e = rw e (within 42 (written_none at b) (omega arith))
+  places_none e = rw e (within 42 (wrote_none u) (omega arith))
 
-  pub places_one : (a : List ℕ) (n : ℕ) → p.count ≡ 1 → Within 21 at (0x20 ∷ decimal_of p.first) b a n → Within 42 at (blank_before (places_in p)) b a n
+  pub places_one : (w : Writer) → p.count ≡ 1 → WroteWithin 21 (0x20 ∷ decimal_of p.first) u w → WroteWithin 42 (blank_before (places_in p)) u w
   unfolding blank_before places_in
-  places_one a n e w = rw (e, append-nil) (record { written = w.written; short = omega arith })
+  places_one w e x = rw (e, append-nil) (wider 42 (omega arith) x)
 
-  pub places_two : (m a : List ℕ) (i n : ℕ) → (p.count ≡ 0 → ⊥) → (p.count ≡ 1 → ⊥) → at + 42 ≤ length b
-      → Within 21 at (0x20 ∷ decimal_of p.first) b m i → Within 21 i (0x20 ∷ decimal_of p.second) m a n → Within 42 at (blank_before (places_in p)) b a n
+  pub second_fits : (v : Writer) → HasRoom 42 u → WroteWithin 21 (0x20 ∷ decimal_of p.first) u v → HasRoom 21 v
+  second_fits v h x = room_within 21 21 (0x20 ∷ decimal_of p.first) u v h x
+
+  pub places_two : (v w : Writer) → (p.count ≡ 0 → ⊥) → (p.count ≡ 1 → ⊥) → HasRoom 42 u
+      → WroteWithin 21 (0x20 ∷ decimal_of p.first) u v → WroteWithin 21 (0x20 ∷ decimal_of p.second) v w → WroteWithin 42 (blank_before (places_in p)) u w
   unfolding blank_before
-  places_two m a i n no-0 no-1 h w v =
+  places_two v w no-0 no-1 h x y =
       let both : places_in p ≡ p.first ∷ p.second ∷ [] = all_of p (omega arith) in
-      rw (both, append-nil) (within_then w v (omega arith))
+      rw (both, append-nil) (within_then x y (omega arith))
 
--- ---- the line
+-- ---- the line, y being the number as it was read
 
-pub refusal_written : (number : ℕ) (p : PlaceList) (b m m' a : List ℕ) (i j n y : ℕ) → 46 ≤ length b → Short 3 number y
-    → Written 0 (decimal_of y) b m i → Within 42 i (blank_before (places_in p)) m m' j → Written j (0x0a ∷ []) m' a n
-    → Within 46 0 (refusal_line number (places_in p)) b a n
-unfolding refusal_line
-refusal_written number p b m m' a i j n y h s w v u =
-    let wv = within_then (within_number s w) v (omega arith) in
-    rw append_assoc at (within_then wv (within 1 u (omega arith)) (omega arith))
+module _ (b : List ℕ) (number y : ℕ) (p : PlaceList) (t u v : Writer) (e : y ≡ number) (f : number < 256) (h : 46 ≤ length b) (held : t.out.now ≡ b) (start : t.at ≡ 0) where
+  begun : HasRoom 46 t
+  begun = let l : 46 ≤ length t.out.now = rw held h in omega (arith, start)
+
+  short : Short 3 number y
+  short = byte_short number number y e refl (rw e f)
+
+  pub number_fits : HasRoom (length (decimal_of y)) t
+  number_fits = omega (arith, short.short, begun)
+
+  module _ (x : Wrote (decimal_of y) t u) where
+    numbered : WroteWithin 3 (decimal_of number) t u
+    numbered = within_number short x
+
+    pub places_fit : HasRoom 42 u
+    places_fit = omega (arith, room_within 3 43 (decimal_of number) t u begun numbered)
+
+    module _ (z : WroteWithin 42 (blank_before (places_in p)) u v) where
+      placed : WroteWithin 45 (decimal_of number ++ blank_before (places_in p)) t v
+      placed = within_then numbered z (omega (arith, begun))
+
+      pub end_fits : HasRoom 1 v
+      end_fits = room_within 45 1 (decimal_of number ++ blank_before (places_in p)) t v begun placed
+
+      pub refusal_written : (w : Writer) → Wrote (0x0a ∷ []) v w → Within 46 0 (refusal_line number (places_in p)) b w.out.now w.at
+      unfolding refusal_line
+      refusal_written w a =
+          let whole : WroteWithin 46 (decimal_of number ++ (blank_before (places_in p) ++ (0x0a ∷ []))) t w = rw append_assoc at (within_then placed (within 1 a (omega arith)) (omega (arith, begun))) in
+          begun_within 46 (decimal_of number ++ (blank_before (places_in p) ++ (0x0a ∷ []))) b t w held start whole
 
 -- what a caller takes out of a buffer that just holds it is there
 pub line_part : (p b a : List ℕ) (n : ℕ) → Within 46 0 p b a n → length a ≡ 46 → n ≡ length (take n a)
