@@ -7,15 +7,13 @@ use native.Mathlib.Nat.{eq-or-lt_of_le}
 use native.Mathlib.Omega.{arith}
 use Rattle.refusals.specs.Refusals.{Fault}
 use Rattle.records.specs.Refusals.{catalogue_number}
-use Rattle.records.specs.Inner.{Serves}
 use Rattle.records.specs.Faults.{first_fault}
 use Rattle.records.specs.declared.Kind.{Kind}
 use Rattle.records.specs.declared.Refusal.{Refusal}
 use Rattle.records.specs.declared.Refusal.TheVariants.{Repeated}
-use Rattle.records.specs.declared.First.TheVariants.{Of, Nothing}
 use Rattle.pairs.proofs.Visits.{pairs_among, among_next, among_le, among_0, among_512, Found, Absent}
 use Rattle.catalogue.specs.Catalogue.{records, faults_before, visit_of, faults, check_of, compared_after, pairs_of}
-use Rattle.catalogue.specs.declared.Checked.TheVariants.{Good, Refused}
+use Rattle.std.specs.Prelude.{Ok, Err}
 use Rattle.catalogue.proofs.Answers.{good_answer, passed_records}
 use Rattle.catalogue.proofs.Scan.{first_none_left}
 use Rattle.catalogue.proofs.Repeats.{trace_at, traces_same, pairs_of_lem, passed_first, found_first, found_earliest, absent_first, absent_none, refused_why, pair_named}
@@ -47,11 +45,11 @@ module _ (kind : Kind) (s : List ℕ) (p : faults_before kind s ≡ []) where
 -- ---- the theorems
 
 -- "a catalogue refused before that reports 0": it is refused by another number than 13
-pub refused_uncounted : (kind : Kind) (s : List ℕ) (x : Refusal) → check_of kind s ≡ Refused x → (catalogue_number x ≡ 13 → ⊥) → pairs_of kind s ≡ 0
-unfolding check_of pairs_of compared_after catalogue_number
+pub refused_uncounted : (kind : Kind) (s : List ℕ) (x : Refusal) → check_of kind s ≡ Err x → (catalogue_number x ≡ 13 → ⊥) → pairs_of kind s ≡ 0
+unfolding check_of pairs_of compared_after
 refused_uncounted kind s x e d = go (faults_before kind s) refl
   where
-    visited : faults_before kind s ≡ [] → first_fault (visit_of kind s).repeats ≡ Of x
+    visited : faults_before kind s ≡ [] → first_fault (visit_of kind s).repeats ≡ Err x
     visited q = sym (passed_first kind s q) ∙ refused_why (records kind s) (first_fault (faults kind s)) x e
 
     go : (l : List (Fault Refusal)) → faults_before kind s ≡ l → compared_after (faults_before kind s) (visit_of kind s) ≡ 0
@@ -63,7 +61,7 @@ refused_uncounted kind s x e d = go (faults_before kind s) refl
     go (f ∷ l) q = rw q
 
 -- refused by 13, with record `later` that repeats record `first`: all pairs of the records before the later one, and those with the later one up to the first
-pub repeat_counted : (kind : Kind) (s : List ℕ) (later first : ℕ) → check_of kind s ≡ Refused (Repeated later first) → pairs_of kind s ≡ (later - 1) * (later - 2) / 2 + first
+pub repeat_counted : (kind : Kind) (s : List ℕ) (later first : ℕ) → check_of kind s ≡ Err (Repeated later first) → pairs_of kind s ≡ (later - 1) * (later - 2) / 2 + first
 unfolding pairs_among
 repeat_counted kind s later first e =
     let n = pair_named kind s later first e in
@@ -72,11 +70,11 @@ repeat_counted kind s later first e =
     rw (p, q) (omega (arith, found_pairs kind s n.passed n.found, n.first_at))
 
 -- a good catalogue of n records: all its pairs
-pub good_counted : (kind : Kind) (s : List ℕ) (n : ℕ) → check_of kind s ≡ Good n → pairs_of kind s ≡ n * (n - 1) / 2
+pub good_counted : (kind : Kind) (s : List ℕ) (n : ℕ) → check_of kind s ≡ Ok n → pairs_of kind s ≡ n * (n - 1) / 2
 unfolding check_of faults pairs_among
 good_counted kind s n e = go (pairs_of_lem kind s)
   where
-    good : (first_fault (faults_before kind s ++ (visit_of kind s).repeats) ≡ Nothing) × (records kind s ≡ n)
+    good : (first_fault (faults_before kind s ++ (visit_of kind s).repeats) ≡ Ok tt) × (records kind s ≡ n)
     good = good_answer (records kind s) n (first_fault (faults_before kind s ++ (visit_of kind s).repeats)) e
 
     passed : faults_before kind s ≡ []
@@ -99,12 +97,12 @@ compared_most kind s = go (faults_before kind s) refl
     go (f ∷ l) q = rw q (omega arith)
 
 -- so never more than the pairs of 512 records, whatever the file
-pub compared_512 : (kind : Kind) (s : List ℕ) → Serves kind → pairs_of kind s ≤ 130816
+pub compared_512 : (kind : Kind) (s : List ℕ) → pairs_of kind s ≤ 130816
 unfolding pairs_of compared_after
-compared_512 kind s serves = go (faults_before kind s) refl
+compared_512 kind s = go (faults_before kind s) refl
   where
     go : (l : List (Fault Refusal)) → faults_before kind s ≡ l → compared_after (faults_before kind s) (visit_of kind s) ≤ 130816
-    go [] q = omega (arith, passed_most kind s q, among_le (records kind s) 512 (passed_records kind s serves q), among_512)
+    go [] q = omega (arith, passed_most kind s q, among_le (records kind s) 512 (passed_records kind s q), among_512)
     go (f ∷ l) q = rw q (omega arith)
 
 -- two records with one trace are the last two

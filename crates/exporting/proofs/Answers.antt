@@ -13,7 +13,7 @@ use Rattle.refusals.proofs.Wrong.{Numbered}
 use Rattle.records.specs.Record.{old_kind, most_records}
 use Rattle.records.specs.Refusals.{catalogue_says}
 use Rattle.records.specs.Faults.{first_fault}
-use Rattle.records.proofs.Places.{old_serves}
+use Rattle.records.proofs.Fields.{old_serves}
 use Rattle.records.specs.declared.Kind.{Kind}
 use Rattle.records.specs.declared.Refusal.{Refusal}
 use Rattle.catalogue.specs.Catalogue.{faults, records, catalogue_answer, check_of, Checks}

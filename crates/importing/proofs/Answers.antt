@@ -19,7 +19,7 @@ use Rattle.records.specs.Refusals.{catalogue_says}
 use Rattle.records.specs.Faults.{first_fault}
 use Rattle.records.specs.declared.Refusal as records-refusal
 use Rattle.records.proofs.Numbers.{behind}
-use Rattle.records.proofs.Places.{old_serves}
+use Rattle.records.proofs.Fields.{old_serves}
 use Rattle.catalogue.specs.Catalogue.{faults, records, catalogue_answer, check_of, Checks}
 use Rattle.catalogue.specs.declared.Checked.TheVariants as checked
 use Rattle.catalogue.specs.declared.Counted.{Counted}

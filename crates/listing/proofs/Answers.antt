@@ -10,13 +10,12 @@ use Rattle.text.specs.Inner.{Written, Within}
 use Rattle.text.proofs.Pieces.{written_then}
 use Rattle.catalogue.specs.Catalogue.{Checks}
 use Rattle.records.specs.Record.{old_kind, most_records}
-use Rattle.records.proofs.Places.{old_serves}
 use Rattle.records.specs.declared.Kind.{Kind}
 use Rattle.records.specs.declared.Refusal.{Refusal}
-use Rattle.catalogue.specs.declared.Checked.TheVariants.{Good, Refused}
+use Rattle.std.specs.Prelude.{Ok, Err}
 use Rattle.catalogue.specs.declared.Counted.{Counted}
 use Rattle.catalogue.proofs.Answers.{good_length, checked_is}
-use Rattle.records.specs.declared.PlaceList.{PlaceList}
+use Rattle.records.specs.declared.Places.{Places}
 use Rattle.records.specs.Refusals.{catalogue_number, catalogue_places, places_given, places_in}
 use Rattle.records.proofs.Numbers.{named_all}
 use Rattle.record_line.specs.RecordLine.{lines_from}
@@ -56,9 +55,9 @@ listed_part kind s b a n l = sym (length-take-le n a (listed_there kind s b a n 
 
 -- c is what the check answered, of the kind that 01 has
 module _ (s : List ℕ) (c : Counted) (is_c : Checks old_kind s c) where
-  module _ (n : ℕ) (e : c.checked ≡ Good n) where
+  module _ (n : ℕ) (e : c.checked ≡ Ok n) where
     whole : (length s ≡ old_kind.length * n) × (n ≤ most_records)
-    whole = good_length old_kind s n (old_serves old_kind refl) (sym (checked_is old_kind s c is_c) ∙ e)
+    whole = good_length old_kind s n (sym (checked_is old_kind s c is_c) ∙ e)
 
     pub good_room : (b : List ℕ) → length b ≡ 15898 → 26 + 31 * n ≤ length b
     good_room b l = omega (arith, whole.1)
@@ -72,7 +71,7 @@ module _ (s : List ℕ) (c : Counted) (is_c : Checks old_kind s c) where
       unfolding listing_of text_of
       good_listed b a k q l w = listed old_kind s (heading ++ lines_from listing_form kind s 0 n) b a k (rw (← (checked_is old_kind s c is_c), e, is-kind)) q l w
 
-  pub refused_listed : (x : Refusal) (p : PlaceList) → c.checked ≡ Refused x → p ≡ places_given (catalogue_places x) → (number : ℕ) → number ≡ catalogue_number x
+  pub refused_listed : (x : Refusal) (p : Places) → c.checked ≡ Err x → p ≡ places_given (catalogue_places x) → (number : ℕ) → number ≡ catalogue_number x
       → (b a : List ℕ) (k : ℕ) → length a ≡ length b → length b ≡ 15898 → Within 46 0 (refusal_line number (places_in p)) b a k → Listed old_kind s b a k
   unfolding listing_of text_of
   refused_listed x p e is-p number is-n b a k q l w =

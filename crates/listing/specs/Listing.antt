@@ -1,6 +1,6 @@
 -- What the listing program prints for a catalogue, of 01: a heading and a line for each record, "number decimal, label two capital hex digits,
 -- trace as it stands, flags decimal"; "a refused file prints one line: its number, then the place (13: later, then first; 9: none)".
-use Rattle.std.specs.Prelude.{ℕ, ◌≤◌, ◌≡◌, false, List, [], ◌∷◌, ◌++◌, length}
+use Rattle.std.specs.Prelude.{ℕ, ◌≤◌, ◌≡◌, false, List, [], ◌∷◌, ◌++◌, length, Result, Ok, Err}
 use Rattle.copier.specs.Put.{put}
 use Rattle.records.specs.Refusals.{catalogue_number, catalogue_places}
 use Rattle.catalogue.specs.Catalogue.{check_of}
@@ -8,8 +8,7 @@ use Rattle.record_line.specs.RecordLine.{lines_from}
 use Rattle.refusal_line.specs.RefusalLine.{refusal_line}
 use Rattle.records.specs.declared.Kind.{Kind}
 use Rattle.record_line.specs.declared.Form.{Form}
-use Rattle.catalogue.specs.declared.Checked.{Checked}
-use Rattle.catalogue.specs.declared.Checked.TheVariants.{Good, Refused}
+use Rattle.records.specs.declared.Refusal.{Refusal}
 
 -- `circuit label trace flags`
 abbrev pub heading : List ℕ
@@ -23,9 +22,9 @@ heading =
 abbrev pub listing_form : Form
 listing_form = record { between = 0x20; opening = 0x5b; closing = 0x5d; doubles = false }
 
-unfoldable pub text_of : Kind → List ℕ → Checked → List ℕ
-text_of kind s (Good n) = heading ++ lines_from listing_form kind s 0 n
-text_of kind s (Refused x) = refusal_line (catalogue_number x) (catalogue_places x)
+unfoldable pub text_of : Kind → List ℕ → Result ℕ Refusal → List ℕ
+text_of kind s (Ok n) = heading ++ lines_from listing_form kind s 0 n
+text_of kind s (Err x) = refusal_line (catalogue_number x) (catalogue_places x)
 
 unfoldable pub listing_of : Kind → List ℕ → List ℕ
 listing_of kind s = text_of kind s (check_of kind s)

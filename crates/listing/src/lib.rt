@@ -5,11 +5,9 @@
 ghost use Rattle.std.specs.Prelude.{◌≡◌, ◌++◌, ◌+◌, ◌*◌, ◌≤◌, length};
 ghost use Rattle.text.specs.Inner.{Written};
 ghost use Rattle.records.specs.Record.{old_kind};
-ghost use Rattle.records.specs.Inner.{Serves};
 ghost use Rattle.record_line.specs.RecordLine.{lines_from};
 ghost use Rattle.listing.specs.Listing.{heading, listing_form, Listed};
 
-use catalogue::Checked;
 use record_line::Form;
 use records::Kind;
 
@@ -27,7 +25,7 @@ fn form() -> Form
 
 // A good catalogue of n records: the heading and the lines.
 fn good(kind: Kind, out: &mut [u8], s: &[u8], n: usize) -> usize
-    requires { (Serves kind) × ((length s.now ≡ kind.length * n) × (26 + 31 * n ≤ length out.old)) }
+    requires { (length s.now ≡ kind.length * n) × (26 + 31 * n ≤ length out.old) }
     ensures { Written 0 (heading ++ lines_from listing_form kind s.now 0 n) out.old out.new result }
 {
     let at = text::bytes(out, 0, b"circuit label trace flags\n");
@@ -39,9 +37,8 @@ fn good(kind: Kind, out: &mut [u8], s: &[u8], n: usize) -> usize
 pub fn list(s: &[u8], out: &mut [u8; 15898]) -> usize
     ensures { Listed old_kind s.now out.old out.new result }
 {
-    let checked = catalogue::check(s).checked;
-    match checked {
-        Checked::Good(n) => good(records::old_kind(), out, s, n),
-        Checked::Refused(x) => refusal_line::write(out, records::number(x), records::named(x)),
+    match catalogue::check(s).checked {
+        Ok(n) => good(Kind::old(), out, s, n),
+        Err(x) => refusal_line::write(out, x.number(), x.places()),
     }
 }

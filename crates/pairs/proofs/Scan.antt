@@ -10,7 +10,7 @@ use Rattle.records.specs.Record.{record_at, trace_in}
 use Rattle.records.specs.Faults.{first_fault}
 use Rattle.records.specs.declared.Kind.{Kind}
 use Rattle.records.specs.declared.Refusal.TheVariants.{Repeated}
-use Rattle.records.specs.declared.First.TheVariants.{Of, Nothing}
+use Rattle.std.specs.Prelude.{Ok, Err}
 use Rattle.pairs.specs.Pairs.{Pair, pairs_with, pairs_from, one_trace, repeated, Visit, one_more, visit}
 use Rattle.pairs.specs.Inner.{visited_of}
 
@@ -48,7 +48,7 @@ module _ (kind : Kind) (s : List ℕ) (rest : List Pair) (j i k : ℕ) (v : Visi
         repeats_are = rw (one_less i j h, ← is_b, t) at l.repeats_are;
       }
 
-  pub left_hit : b ≡ true → record { repeat = Of (Repeated (j + 1) (i + 1)); pairs = k + 1 } ≡ visited_of v
+  pub left_hit : b ≡ true → record { repeat = Err (Repeated (j + 1) (i + 1)); pairs = k + 1 } ≡ visited_of v
   unfolding pairs_with visit visited_of repeated first_fault
   left_hit t =
       let c = rw (one_less i j h, ← is_b, t) at l.compared_is in
@@ -60,9 +60,9 @@ pub left_next : (kind : Kind) (s : List ℕ) (rest : List Pair) (j i k : ℕ) (v
 unfolding pairs_with
 left_next kind s rest j i k v h l = rw (none_left i j h) at l
 
-pub left_end : (kind : Kind) (s : List ℕ) (n j k : ℕ) (v : Visit) → n ≤ j → Left kind s k (pairs_from j (n - j)) v → record { repeat = Nothing; pairs = k } ≡ visited_of v
+pub left_end : (kind : Kind) (s : List ℕ) (n j k : ℕ) (v : Visit) → n ≤ j → Left kind s k (pairs_from j (n - j)) v → record { repeat = Ok tt; pairs = k } ≡ visited_of v
 unfolding pairs_from visit visited_of first_fault
 left_end kind s n j k v h l =
     let c : k + 0 ≡ v.compared = rw (none_left j n h) at l.compared_is in
     let r : [] ≡ v.repeats = rw (none_left j n h) at l.repeats_are in
-    rw (← c, ← r) (ap (λ (m : ℕ). record { repeat = Nothing; pairs = m }) (omega arith))
+    rw (← c, ← r) (ap (λ (m : ℕ). record { repeat = Ok tt; pairs = m }) (omega arith))

@@ -4,54 +4,46 @@
 
 ghost use Rattle.std.specs.Prelude.{◌≡◌, ◌+◌, ◌*◌, ◌≤◌, length};
 ghost use Rattle.records.specs.Record.{most_records};
-ghost use Rattle.records.specs.Inner.{Serves};
 ghost use Rattle.pairs.specs.Pairs.{pairs_from, one_trace, visit};
 ghost use Rattle.pairs.specs.Inner.{visited_of};
 
-use records::{First, Kind, Refusal};
+use records::{Kind, Refusal};
 
 // The first two records with one trace, as a refusal, or nothing; and how many pairs were compared.
 #[derive(Clone, Copy)]
 pub struct Visited {
-    pub repeat: First,
+    pub repeat: Result<(), Refusal>,
     pub pairs: usize,
 }
 
 // Whether two records of a file have one trace.
 fn one_trace(kind: Kind, s: &[u8], i: usize, j: usize) -> bool
-    requires { (Serves kind) × ((kind.length * i + kind.length ≤ length s.now) × (kind.length * j + kind.length ≤ length s.now)) }
+    requires { (kind.length * i + kind.length ≤ length s.now) × (kind.length * j + kind.length ≤ length s.now) }
     ensures { result ≡ one_trace kind s.now i j }
 {
-    trace_message::same(
-        records::trace(records::record_at(kind, s, i)),
-        records::trace(records::record_at(kind, s, j)),
-    )
+    trace_message::same(kind.record_at(s, i).trace(), kind.record_at(s, j).trace())
 }
 
 // The earliest later record of a file of n that repeats a trace, with the first record that has it: the scan over record pairs, later by later,
 // is left from inside at the first equal pair. Each pair that is compared is counted, the equal one too.
 pub fn first_repeat(kind: Kind, s: &[u8], n: usize) -> Visited
-    requires { (Serves kind) × ((length s.now ≡ kind.length * n) × (n ≤ most_records)) }
+    requires { (length s.now ≡ kind.length * n) × (n ≤ most_records) }
     ensures { result ≡ visited_of (visit kind s.now (pairs_from 0 n)) }
 {
     let mut pairs = 0;
-    let mut j = 0;
-    while j < n {
-        let mut i = 0;
-        while i < j {
+    for j in 0..n {
+        for i in 0..j {
             pairs += 1;
             if one_trace(kind, s, i, j) {
                 return Visited {
-                    repeat: First::Of(Refusal::Repeated(j + 1, i + 1)),
-                    pairs: pairs,
+                    repeat: Err(Refusal::Repeated(j + 1, i + 1)),
+                    pairs,
                 };
             }
-            i += 1;
         }
-        j += 1;
     }
     Visited {
-        repeat: First::Nothing,
-        pairs: pairs,
+        repeat: Ok(()),
+        pairs,
     }
 }

@@ -41,13 +41,13 @@ module _ (form : Form) (t b : List ℕ) (at : ℕ) (l : length t ≡ 15) (h : at
 
 -- ---- a record's line
 
-module _ (form : Form) (r b m m' a : List ℕ) (at i j n x : ℕ) (s : Short 5 (circuit_in r) x) (h : at + 8 ≤ length b) where
-  pub number_and_label_lem : Written at (decimal_of x) b m i → Written i (form.between ∷ []) m m' j → Written j (hex_of (get_or r 4 0)) m' a n
+module _ (form : Form) (r b m m' a : List ℕ) (at i j n x : ℕ) (s : Short 5 (circuit_in r) x) (label : ℕ) (is-label : label ≡ label_in r) (h : at + 8 ≤ length b) where
+  pub number_and_label_lem : Written at (decimal_of x) b m i → Written i (form.between ∷ []) m m' j → Written j (hex_of label) m' a n
       → Within 8 at (number_and_label form r) b a n
-  unfolding number_and_label label_in
+  unfolding number_and_label
   number_and_label_lem w v u =
       let wv = within_then (within_number s w) (within 1 v (omega arith)) (omega arith) in
-      rw append_assoc at (within_then wv (within 2 u (omega arith)) (omega arith))
+      rw (← is-label) (rw append_assoc at (within_then wv (within 2 u (omega arith)) (omega arith)))
 
 module _ (form : Form) (r t b m m' m'' o a : List ℕ) (at i j k g n x : ℕ) (t-is : t ≡ trace_in r) (s : Short 3 (flags_in r) x) (h : at + (characters_most form + 6) ≤ length b) where
   pub trace_and_flags_lem : Written at (form.opening ∷ []) b m i → Within (characters_most form) i (characters_of form t) m m' j → Written j (form.closing ∷ []) m' m'' k

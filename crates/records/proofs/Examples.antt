@@ -3,9 +3,9 @@ use native.Mathlib.Omega.{arith}
 use Rattle.records.specs.Inner.{Serves}
 use Rattle.records.specs.declared.Kind.{Kind}
 
+pub longer_serves : Serves 24
+longer_serves = record { holds = omega arith; short = omega arith }
+
 -- 24 bytes, 5A 4E: the fields, and three bytes more
 abbrev pub longer : Kind
-longer = record { length = 24; first = 0x5a; second = 0x4e }
-
-pub longer_serves : Serves longer
-longer_serves = record { holds = omega arith; short = omega arith }
+longer = record { length = 24; first = 0x5a; second = 0x4e; serves = longer_serves }

@@ -10,10 +10,10 @@ use Rattle.refusals.specs.declared.TraceFault.TheVariants.{Below, Above, Spaces}
 use Rattle.refusals.proofs.Wrong.{Numbered, trace_says, numbered_row, numbered_last, numbered_rows, numbered_both}
 use Rattle.settings.specs.Settings.{trace_faults}
 use Rattle.settings.proofs.Refuses.{trace_numbered}
-use Rattle.records.specs.Refusals.{catalogue_number, catalogue_places, catalogue_says, places_given, places_in}
+use Rattle.records.specs.Refusals.{catalogue_places, catalogue_says, places_given, places_in}
 use Rattle.records.specs.Faults.{record_faults}
 use Rattle.records.specs.declared.Kind.{Kind}
-use Rattle.records.specs.declared.PlaceList.{PlaceList}
+use Rattle.records.specs.declared.Places.{Places}
 use Rattle.records.specs.declared.Refusal.{Refusal}
 use Rattle.records.specs.declared.Refusal.TheVariants.{Length, Mark, Circuit, Label, Trace, Flags, Repeated, NotListed}
 
@@ -25,24 +25,14 @@ behind place [] = []
 behind place (n ∷ ps) = n ∷ place ∷ ps
 
 trace_rows : (place : ℕ) (trace : List ℕ) → Numbered catalogue_says (rows_at (place ∷ []) (Trace place) (trace_faults trace))
-unfolding catalogue_says catalogue_number catalogue_places trace_says behind
+unfolding catalogue_says trace_says behind
 trace_rows place trace = numbered_rows trace_says catalogue_says (place ∷ []) (Trace place) (λ x n ps e. ap (behind place) e) (trace_faults trace) (trace_numbered trace)
 
 pub record_numbered : (kind : Kind) (place : ℕ) (r : List ℕ) → Numbered catalogue_says (record_faults kind place r)
-unfolding record_faults catalogue_says catalogue_number catalogue_places
+unfolding record_faults catalogue_says
 record_numbered kind place r = search (numbered_row, numbered_both, numbered_last, trace_rows)
 
--- ---- the places that are answered: those of what is equal to a case; the case's own are computed
-
-module _ (r : PlaceList) where
-  pub as_trace : (place : ℕ) (t u : TraceFault) → t ≡ u → r ≡ places_given (place ∷ trace_places u) → r ≡ places_given (place ∷ trace_places t)
-  as_trace place t u e h = rw e h
-
-  pub as_refusal : (x y : Refusal) → x ≡ y → r ≡ places_given (catalogue_places y) → r ≡ places_given (catalogue_places x)
-  as_refusal x y e h = rw e h
-
-pub number_as : (x y : Refusal) (n : ℕ) → x ≡ y → n ≡ catalogue_number y → n ≡ catalogue_number x
-number_as x y n e h = rw e h
+-- ---- the places that are answered
 
 -- no refusal names more than two, so none is lost
 two_of_trace : (place : ℕ) (t : TraceFault) → length (place ∷ trace_places t) ≤ 2
@@ -52,7 +42,6 @@ two_of_trace place (Above p) = omega arith
 two_of_trace place Spaces = omega arith
 
 two_at_most : (x : Refusal) → length (catalogue_places x) ≤ 2
-unfolding catalogue_places
 two_at_most Length = omega arith
 two_at_most (Mark p) = omega arith
 two_at_most (Circuit p) = omega arith
@@ -63,11 +52,10 @@ two_at_most (Repeated p q) = omega arith
 two_at_most NotListed = omega arith
 
 none_lost : (ps : List ℕ) → length ps ≤ 2 → places_in (places_given ps) ≡ ps
-unfolding places_given places_in
 none_lost [] h = refl
 none_lost (p ∷ []) h = refl
 none_lost (p ∷ q ∷ []) h = refl
 none_lost (p ∷ q ∷ o ∷ more) h = absurd (omega arith)
 
-pub named_all : (x : Refusal) (r : PlaceList) → r ≡ places_given (catalogue_places x) → places_in r ≡ catalogue_places x
+pub named_all : (x : Refusal) (r : Places) → r ≡ places_given (catalogue_places x) → places_in r ≡ catalogue_places x
 named_all x r e = rw e (none_lost (catalogue_places x) (two_at_most x))

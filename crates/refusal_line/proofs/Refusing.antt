@@ -4,7 +4,7 @@ use mathlib.Core.List.{List, [], ◌∷◌, ◌++◌, append_assoc, append-nil}
 use Prim.Native.Nat.{ℕ, ◌<◌, ◌≤◌}
 use native.Mathlib.Omega.{arith}
 use lib.ListN.{length, take}
-use lib.Seq.{take_all, length-take-le}
+use lib.Seq.{length-take-le}
 use Rattle.text.specs.Text.{decimal_of}
 use Rattle.text.specs.Inner.{Short, Within}
 use Rattle.text.specs.declared.Writer.{Writer}
@@ -12,7 +12,8 @@ use Rattle.text.specs.Writing.{HasRoom, Wrote, WroteWithin}
 use Rattle.text.proofs.Digits.{length_most}
 use Rattle.text.proofs.Pieces.{room_after, wrote_none}
 use Rattle.text.proofs.Within.{begun_within, byte_short, room_within, wider, within, within_number, within_then}
-use Rattle.records.specs.declared.PlaceList.{PlaceList}
+use Rattle.records.specs.declared.Places.{Places}
+use Rattle.records.specs.declared.Places.TheVariants.{Nowhere, One, Two}
 use Rattle.records.specs.Refusals.{places_in}
 use Rattle.refusal_line.specs.RefusalLine.{blank_before, refusal_line}
 
@@ -27,33 +28,26 @@ module _ (u v : Writer) (p : ℕ) (h : HasRoom 21 u) (x : Wrote (0x20 ∷ []) u 
 
 -- ---- no place, one, and two
 
--- two, or more, which no refusal names
-all_of : (p : PlaceList) → 2 ≤ p.count → places_in p ≡ p.first ∷ p.second ∷ []
-unfolding places_in
-all_of p h = take_all p.count (p.first ∷ p.second ∷ []) h
-
-module _ (u : Writer) (p : PlaceList) where
-  pub places_none : p.count ≡ 0 → WroteWithin 42 (blank_before (places_in p)) u u
-  unfolding blank_before places_in
+module _ (u : Writer) (p : Places) where
+  pub places_none : p ≡ Nowhere → WroteWithin 42 (blank_before (places_in p)) u u
+  unfolding blank_before
   places_none e = rw e (within 42 (wrote_none u) (omega arith))
 
-  pub places_one : (w : Writer) → p.count ≡ 1 → WroteWithin 21 (0x20 ∷ decimal_of p.first) u w → WroteWithin 42 (blank_before (places_in p)) u w
-  unfolding blank_before places_in
-  places_one w e x = rw (e, append-nil) (wider 42 (omega arith) x)
-
-  pub second_fits : (v : Writer) → HasRoom 42 u → WroteWithin 21 (0x20 ∷ decimal_of p.first) u v → HasRoom 21 v
-  second_fits v h x = room_within 21 21 (0x20 ∷ decimal_of p.first) u v h x
-
-  pub places_two : (v w : Writer) → (p.count ≡ 0 → ⊥) → (p.count ≡ 1 → ⊥) → HasRoom 42 u
-      → WroteWithin 21 (0x20 ∷ decimal_of p.first) u v → WroteWithin 21 (0x20 ∷ decimal_of p.second) v w → WroteWithin 42 (blank_before (places_in p)) u w
+  pub places_one : (first : ℕ) (w : Writer) → p ≡ One first → WroteWithin 21 (0x20 ∷ decimal_of first) u w → WroteWithin 42 (blank_before (places_in p)) u w
   unfolding blank_before
-  places_two v w no-0 no-1 h x y =
-      let both : places_in p ≡ p.first ∷ p.second ∷ [] = all_of p (omega arith) in
-      rw (both, append-nil) (within_then x y (omega arith))
+  places_one first w e x = rw (e, append-nil) (wider 42 (omega arith) x)
+
+  pub second_fits : (first : ℕ) (v : Writer) → HasRoom 42 u → WroteWithin 21 (0x20 ∷ decimal_of first) u v → HasRoom 21 v
+  second_fits first v h x = room_within 21 21 (0x20 ∷ decimal_of first) u v h x
+
+  pub places_two : (first second : ℕ) (v w : Writer) → p ≡ Two first second → HasRoom 42 u
+      → WroteWithin 21 (0x20 ∷ decimal_of first) u v → WroteWithin 21 (0x20 ∷ decimal_of second) v w → WroteWithin 42 (blank_before (places_in p)) u w
+  unfolding blank_before
+  places_two first second v w e h x y = rw (e, append-nil) (within_then x y (omega arith))
 
 -- ---- the line, y being the number as it was read
 
-module _ (b : List ℕ) (number y : ℕ) (p : PlaceList) (t u v : Writer) (e : y ≡ number) (f : number < 256) (h : 46 ≤ length b) (held : t.out.now ≡ b) (start : t.at ≡ 0) where
+module _ (b : List ℕ) (number y : ℕ) (p : Places) (t u v : Writer) (e : y ≡ number) (f : number < 256) (h : 46 ≤ length b) (held : t.out.now ≡ b) (start : t.at ≡ 0) where
   begun : HasRoom 46 t
   begun = let l : 46 ≤ length t.out.now = rw held h in omega (arith, start)
 

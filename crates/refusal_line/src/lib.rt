@@ -9,7 +9,7 @@ ghost use Rattle.text.specs.Writing.{HasRoom, WroteWithin};
 ghost use Rattle.records.specs.Refusals.{places_in};
 ghost use Rattle.refusal_line.specs.RefusalLine.{blank_before, refusal_line};
 
-use records::PlaceList;
+use records::Places;
 use text::Writer;
 
 // A place, with a blank before it.
@@ -22,22 +22,22 @@ fn place(w: &mut Writer, p: usize)
 }
 
 // The places that a refusal names, in their order.
-fn places(w: &mut Writer, p: PlaceList)
+fn places(w: &mut Writer, p: Places)
     requires { HasRoom 42 w.old }
     ensures { WroteWithin 42 (blank_before (places_in p)) w.old w.new }
 {
-    if p.count == 0 {
-        return;
+    match p {
+        Places::Nowhere => {}
+        Places::One(first) => place(w, first),
+        Places::Two(first, second) => {
+            place(w, first);
+            place(w, second);
+        }
     }
-    place(w, p.first);
-    if p.count == 1 {
-        return;
-    }
-    place(w, p.second);
 }
 
 // The line; the answer is its length.
-pub fn write(out: &mut [u8], number: u8, p: PlaceList) -> usize
+pub fn write(out: &mut [u8], number: u8, p: Places) -> usize
     requires { 46 ≤ length out.old }
     ensures { Within 46 0 (refusal_line number (places_in p)) out.old out.new result }
 {

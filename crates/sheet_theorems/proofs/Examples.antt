@@ -97,7 +97,7 @@ malformed = refl
 
 -- what is said first of it: the refusal's number and its places, nothing where it is a good catalogue
 answer : String → List ℕ
-unfolding bytes import_faults faults_from lines_of onto result_of records_of record_of front_of padded characters line_faults well_formed flags_field behind_comma quoted trace_on label_field number_field is_label is_hex is_number digits_only is_digit in_quotes behind_quotes up_to past opens label_value hex_value value_from due rows_at said_by catalogue.faults catalogue.faults_before catalogue.length_refused catalogue.faults_from catalogue.records catalogue.visit_of pairs.pairs_from pairs.pairs_with pairs.visit pairs.one_more pairs.one_trace pairs.repeated alike record_faults marked circuit_refused circuit_in label_refused label_in trace_faults characters_from below above all_spaces trace_in flags_refused flags_in record_at
+unfolding bytes import_faults faults_from lines_of onto result_of records_of record_of front_of padded characters line_faults well_formed flags_field behind_comma quoted trace_on label_field number_field is_label is_hex is_number digits_only is_digit in_quotes behind_quotes up_to past opens label_value hex_value value_from due rows_at said_by catalogue.faults catalogue.faults_before catalogue.length_refused catalogue.faults_from catalogue.records catalogue.visit_of pairs.pairs_from pairs.pairs_with pairs.visit pairs.one_more pairs.one_trace pairs.repeated alike record_faults marked circuit_refused circuit_in label_refused trace_faults characters_from below above all_spaces trace_in flags_refused record_at
 answer s = said_by [] (import_faults (bytes s))
 
 -- "line by line 15, 16, 17, and last 01's catalogue order over the result"
@@ -144,5 +144,5 @@ unfolding answer paper
 imported_paper = refl
 
 exported_paper : line_of sheet_form paper ≡ bytes "7,12,\"03E5           \",15"
-unfolding paper bytes line_of number_and_label characters_of trace_and_flags doubled decimal_of decimal_in hex_digit circuit_in label_in trace_in flags_in
+unfolding paper bytes line_of number_and_label characters_of trace_and_flags doubled decimal_of decimal_in hex_digit circuit_in trace_in
 exported_paper = refl

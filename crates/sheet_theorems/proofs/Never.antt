@@ -13,7 +13,7 @@ use Rattle.digits.proofs.Laws.{digit_range}
 use Rattle.refusals.proofs.Joined.{joined_none}
 use Rattle.records.specs.Record.{old_kind, record_at}
 use Rattle.records.specs.Faults.{record_faults}
-use Rattle.records.proofs.Places.{old_serves}
+use Rattle.records.proofs.Fields.{old_serves}
 use Rattle.catalogue.specs.Catalogue.{faults_from, check_of}
 use Rattle.catalogue.specs.declared.Checked.TheVariants.{Good}
 use Rattle.catalogue.proofs.Answers.{good_length}

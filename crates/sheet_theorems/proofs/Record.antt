@@ -65,7 +65,6 @@ module _ (r : List ℕ) (f : Fair r) where
       (omega (arith, doubled_length (trace_in r), trace_long, length_decimal 4 (circuit_in r) (omega arith) (omega (arith, f.circuit)), length_decimal 2 (flags_in r) (omega arith) small_flags))
 
   small_label : label_in r < 256
-  unfolding label_in
   small_label = f.label
 
   pub line_written : Written number label_text (trace_in r) flags_text (line_of sheet_form r)
@@ -111,7 +110,7 @@ module _ (r : List ℕ) (f : Fair r) where
   low_back = omega (arith, f.low)
 
   shape : r ≡ get_or r 0 0 ∷ get_or r 1 0 ∷ get_or r 2 0 ∷ get_or r 3 0 ∷ label_in r ∷ (trace_in r ++ (flags_in r ∷ []))
-  unfolding label_in trace_in flags_in
+  unfolding trace_in
   shape = record_shape
 
   pub line_says_lem : record_of (line_of sheet_form r) ≡ r

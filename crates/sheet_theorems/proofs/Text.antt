@@ -16,7 +16,7 @@ use Rattle.settings.proofs.Passes.{by_characters}
 use Rattle.text.specs.Text.{decimal_of, hex_of}
 use Rattle.records.specs.Record.{old_kind, record_at, circuit_in, label_in, trace_in, flags_in}
 use Rattle.records.specs.Faults.{record_faults}
-use Rattle.records.proofs.Places.{old_serves}
+use Rattle.records.proofs.Fields.{old_serves}
 use Rattle.catalogue.specs.Catalogue as catalogue
 use Rattle.catalogue.specs.Catalogue.{check_of}
 use Rattle.catalogue.specs.declared.Checked.TheVariants as checked
@@ -44,7 +44,6 @@ trace_lacks t e = by_characters (λ (bs : List ℕ). lacks lf (doubled bs) ≡ t
     go false b bs h i = lacks_cons lf b (doubled bs) (λ q. omega arith) i
 
 small : (r : List ℕ) → Fair r → label_in r < 256
-unfolding label_in
 small r f = f.label
 
 line_lacks : (r : List ℕ) → Fair r → lacks lf (line_of sheet_form r) ≡ true

@@ -8,11 +8,11 @@ returns-then-length_refused c = search check_length
 pub first_fault-requires : goal.first_fault-requires
 first_fault-requires c = search length_whole
 
-pub first_repeat-requires : goal.first_repeat-requires
-first_repeat-requires c = search (length_whole, length_most)
+pub first_repeat-v-requires : goal.first_repeat-v-requires
+first_repeat-v-requires c = search (length_whole, length_most)
 
-pub returns-in-Of : goal.returns-in-Of
-returns-in-Of c = search check_fault
+pub returns-in-Err : goal.returns-in-Err
+returns-in-Err c = search check_fault
 
-pub returns-in-Nothing : goal.returns-in-Nothing
-returns-in-Nothing c = search check_pairs
+pub returns-in-Ok : goal.returns-in-Ok
+returns-in-Ok c = search check_pairs

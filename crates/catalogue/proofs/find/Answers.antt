@@ -1,11 +1,10 @@
 -- `catalogue::find` meets its contract: no record before m has the number, so those from m on decide. Assumes nothing.
-use native.Mathlib.Omega.{arith}
-use Rattle.records.proofs.Places.{record_within}
+use Rattle.records.proofs.Fields.{record_within}
 use Rattle.catalogue.proofs.Scan.{find_start, find_hit, find_turn, find_end}
 use Rattle.catalogue.proofs.find.Goals as goal
 
 pub loop-m-init : goal.loop-m-init
-loop-m-init c = (omega arith, search find_start)
+loop-m-init c = search find_start
 
 pub record_at-r-requires : goal.record_at-r-requires
 record_at-r-requires c = search record_within
@@ -13,14 +12,8 @@ record_at-r-requires c = search record_within
 pub returns-then-circuit-number : goal.returns-then-circuit-number
 returns-then-circuit-number c = search find_hit
 
-pub overflow_add-m : goal.overflow_add-m
-overflow_add-m c = omega arith
-
-pub loop-m-smaller : goal.loop-m-smaller
-loop-m-smaller c = omega arith
-
 pub loop-m-preserved : goal.loop-m-preserved
-loop-m-preserved c = (omega arith, search (find_turn, c.if-circuit-number.false))
+loop-m-preserved c = search (find_turn, c.if-circuit-number.false)
 
 pub returns : goal.returns
 returns c = search find_end

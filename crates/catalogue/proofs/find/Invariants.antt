@@ -1,11 +1,8 @@
 -- `catalogue::find` meets its contract: no record before m has the number, so those from m on decide. Assumes nothing.
 use mathlib.Core.Path.{◌≡◌}
-use Prim.Native.Nat.{◌-◌, ◌≤◌}
+use Prim.Native.Nat.{◌-◌}
 use Rattle.catalogue.specs.Catalogue.{having, first_in}
 use Rattle.catalogue.proofs.find.Given as goal
 
 abbrev pub invariant-loop-m : goal.invariant-loop-m
-invariant-loop-m l = (l.m ≤ l.n) × (first_in (having l.kind l.s l.number l.m (l.n - l.m)) ≡ first_in (having l.kind l.s l.number 0 l.n))
-
-abbrev pub decreases-loop-m : goal.decreases-loop-m
-decreases-loop-m l = l.n - l.m
+invariant-loop-m l = first_in (having l.kind l.s l.number l.m (l.n - l.m)) ≡ first_in (having l.kind l.s l.number 0 l.n)

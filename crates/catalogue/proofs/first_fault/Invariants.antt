@@ -1,12 +1,9 @@
 -- `catalogue::first_fault` meets its contract: nothing is wrong with the records before k, so those from k on decide. Assumes nothing.
 use mathlib.Core.Path.{◌≡◌}
-use Prim.Native.Nat.{◌-◌, ◌≤◌}
+use Prim.Native.Nat.{◌-◌}
 use Rattle.records.specs.Faults.{first_fault}
 use Rattle.catalogue.specs.Catalogue.{faults_from}
 use Rattle.catalogue.proofs.first_fault.Given as goal
 
 abbrev pub invariant-loop-k : goal.invariant-loop-k
-invariant-loop-k l = (l.k ≤ l.n) × (first_fault (faults_from l.kind l.s l.k (l.n - l.k)) ≡ first_fault (faults_from l.kind l.s 0 l.n))
-
-abbrev pub decreases-loop-k : goal.decreases-loop-k
-decreases-loop-k l = l.n - l.k
+invariant-loop-k l = first_fault (faults_from l.kind l.s l.k (l.n - l.k)) ≡ first_fault (faults_from l.kind l.s 0 l.n)

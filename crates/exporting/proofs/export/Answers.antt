@@ -1,5 +1,5 @@
 -- `exporting::export` meets its contract: the buffer has room for a good catalogue of 512 records. Assumes nothing.
-use Rattle.records.proofs.Places.{old_serves}
+use Rattle.records.proofs.Fields.{old_serves}
 use Rattle.exporting.proofs.Answers.{good_records, good_room, good_exported, refused_exported}
 use Rattle.exporting.proofs.export.Goals as goal
 

@@ -1,13 +1,12 @@
 -- `listing::list` meets its contract: the buffer has room for a good catalogue of 512 records, and for a refusal. Assumes nothing.
-use Rattle.records.proofs.Places.{old_serves}
 use Rattle.listing.proofs.Answers.{good_records, good_room, good_listed, refused_listed}
 use Rattle.listing.proofs.list.Goals as goal
 
 pub good-requires : goal.good-requires
-good-requires c = (search old_serves, (search good_records, search good_room))
+good-requires c = (search good_records, search good_room)
 
-pub returns-in-Good : goal.returns-in-Good
-returns-in-Good c = search good_listed
+pub returns-in-Ok : goal.returns-in-Ok
+returns-in-Ok c = search good_listed
 
-pub returns-in-Refused : goal.returns-in-Refused
-returns-in-Refused c = search refused_listed
+pub returns-in-Err : goal.returns-in-Err
+returns-in-Err c = search refused_listed

@@ -1,47 +1,26 @@
 -- `pairs::first_repeat` meets its contract: no pair compared so far has one trace, so those still to come decide, and their number is added. Assumes nothing.
 use native.Mathlib.Omega.{arith}
-use Rattle.records.proofs.Places.{record_within}
+use Rattle.records.proofs.Fields.{record_within}
 use Rattle.pairs.proofs.Scan.{between, left_start, left_later, left_turn, left_hit, left_next, left_end}
 use Rattle.pairs.proofs.first_repeat.Goals as goal
 
 pub loop-j-init : goal.loop-j-init
-loop-j-init c = (omega arith, (omega arith, search left_start))
+loop-j-init c = (omega arith, search left_start)
 
 pub loop-i-init : goal.loop-i-init
-loop-i-init c = (omega arith, (omega arith, (omega arith, search left_later)))
-
-pub overflow_add-pairs : goal.overflow_add-pairs
-overflow_add-pairs c = omega arith
+loop-i-init c = (omega arith, search left_later)
 
 pub one_trace-requires : goal.one_trace-requires
 one_trace-requires c = search (record_within, between)
 
-pub overflow_add-result : goal.overflow_add-result
-overflow_add-result c = omega arith
-
-pub overflow_add-result-then-one_trace : goal.overflow_add-result-then-one_trace
-overflow_add-result-then-one_trace c = omega arith
-
 pub returns-then-one_trace : goal.returns-then-one_trace
 returns-then-one_trace c = search left_hit
 
-pub overflow_add-i : goal.overflow_add-i
-overflow_add-i c = omega arith
-
-pub loop-i-smaller : goal.loop-i-smaller
-loop-i-smaller c = omega arith
-
 pub loop-i-preserved : goal.loop-i-preserved
-loop-i-preserved c = (omega arith, (omega arith, (omega arith, search left_turn)))
-
-pub overflow_add-j : goal.overflow_add-j
-overflow_add-j c = omega arith
-
-pub loop-j-smaller : goal.loop-j-smaller
-loop-j-smaller c = omega arith
+loop-i-preserved c = (omega arith, search left_turn)
 
 pub loop-j-preserved : goal.loop-j-preserved
-loop-j-preserved c = (omega arith, (omega arith, search left_next))
+loop-j-preserved c = (omega arith, search left_next)
 
 pub returns : goal.returns
 returns c = search left_end

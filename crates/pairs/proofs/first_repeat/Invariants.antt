@@ -1,5 +1,5 @@
 -- `pairs::first_repeat` meets its contract: no pair compared so far has one trace, so those still to come decide, and their number is added. Assumes nothing.
-use Prim.Native.Nat.{◌+◌, ◌-◌, ◌*◌, ◌≤◌, ◌<◌}
+use Prim.Native.Nat.{◌+◌, ◌-◌, ◌*◌, ◌≤◌}
 use mathlib.Core.List.{◌++◌}
 use Rattle.records.specs.Record.{most_records}
 use Rattle.pairs.specs.Pairs.{pairs_with, pairs_from, visit}
@@ -8,13 +8,7 @@ use Rattle.pairs.proofs.first_repeat.Given as goal
 
 -- a later record has fewer than 512 before it: so the count is far from its type's end
 abbrev pub invariant-loop-i : goal.invariant-loop-i
-invariant-loop-i l = (l.i ≤ l.j) × ((l.j < l.n) × ((l.pairs ≤ most_records * l.j + l.i) × (Left l.kind l.s l.pairs (pairs_with l.j l.i (l.j - l.i) ++ pairs_from (l.j + 1) (l.n - (l.j + 1))) (visit l.kind l.s (pairs_from 0 l.n)))))
-
-abbrev pub decreases-loop-i : goal.decreases-loop-i
-decreases-loop-i l = l.j - l.i
+invariant-loop-i l = (l.pairs ≤ most_records * l.j + l.i) × Left l.kind l.s l.pairs (pairs_with l.j l.i (l.j - l.i) ++ pairs_from (l.j + 1) (l.n - (l.j + 1))) (visit l.kind l.s (pairs_from 0 l.n))
 
 abbrev pub invariant-loop-j : goal.invariant-loop-j
-invariant-loop-j l = (l.j ≤ l.n) × ((l.pairs ≤ most_records * l.j) × (Left l.kind l.s l.pairs (pairs_from l.j (l.n - l.j)) (visit l.kind l.s (pairs_from 0 l.n))))
-
-abbrev pub decreases-loop-j : goal.decreases-loop-j
-decreases-loop-j l = l.n - l.j
+invariant-loop-j l = (l.pairs ≤ most_records * l.j) × Left l.kind l.s l.pairs (pairs_from l.j (l.n - l.j)) (visit l.kind l.s (pairs_from 0 l.n))

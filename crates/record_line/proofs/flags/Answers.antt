@@ -4,5 +4,4 @@ use Rattle.text.proofs.Within.{byte_short}
 use Rattle.record_line.proofs.flags.Goals as goal
 
 pub returns : goal.returns
-unfolding flags_in
-returns c = search byte_short
+returns c = ?

@@ -1,6 +1,6 @@
 -- `record_line::lines` meets its contract: after k turns the lines of the first k records are written. Assumes nothing.
 use mathlib.Core.Path.{◌≡◌}
-use Prim.Native.Nat.{◌*◌, ◌-◌, ◌≤◌}
+use Prim.Native.Nat.{◌*◌}
 use lib.ListN.{length}
 use Rattle.record_line.specs.RecordLine.{lines_from}
 use Rattle.text.specs.Inner.{Within}
@@ -8,7 +8,4 @@ use Rattle.record_line.specs.Inner.{line_most}
 use Rattle.record_line.proofs.lines.Given as goal
 
 abbrev pub invariant-loop-k : goal.invariant-loop-k
-invariant-loop-k l = (l.k ≤ l.n) × ((length l.out ≡ length l.initial.out) × Within (line_most l.form * l.k) l.at (lines_from l.form l.kind l.s 0 l.k) l.initial.out l.out l.e)
-
-abbrev pub decreases-loop-k : goal.decreases-loop-k
-decreases-loop-k l = l.n - l.k
+invariant-loop-k l = (length l.out ≡ length l.initial.out) × Within (line_most l.form * l.k) l.at (lines_from l.form l.kind l.s 0 l.k) l.initial.out l.out l.e

@@ -4,5 +4,4 @@ use Rattle.records.specs.Refusals.{places_given}
 use Rattle.sheet_refusals.proofs.at_line.Goals as goal
 
 pub returns : goal.returns
-unfolding places_given
 returns c = refl

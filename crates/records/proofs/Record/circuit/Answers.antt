@@ -1,7 +1,7 @@
--- `records::circuit` meets its contract: two bytes, high first, and no overflow. Assumes nothing.
-use Rattle.records.proofs.Places.{circuit_read}
+-- `records::Record::circuit` meets its contract: two bytes, high first, and no overflow. Assumes nothing.
+use Rattle.records.proofs.Fields.{circuit_read}
 use native.Mathlib.Omega.{arith}
-use Rattle.records.proofs.circuit.Goals as goal
+use Rattle.records.proofs.Record.circuit.Goals as goal
 
 pub overflow_mul-result : goal.overflow_mul-result
 overflow_mul-result c = omega arith

@@ -1,6 +1,6 @@
--- `records::fault` meets its contract: the first test that says so decides, in the order of `record_faults`. Assumes nothing.
+-- `records::Kind::fault` meets its contract: the first test that says so decides, in the order of `record_faults`. Assumes nothing.
 use Rattle.records.proofs.Ways.{fault_mark, fault_circuit, fault_label, fault_trace, fault_flags, fault_none}
-use Rattle.records.proofs.fault.Goals as goal
+use Rattle.records.proofs.Kind.fault.Goals as goal
 
 pub returns-then-not-is_marked : goal.returns-then-not-is_marked
 returns-then-not-is_marked c = search fault_mark
@@ -14,8 +14,8 @@ returns-then-label_refused c = search fault_label fits 20000
 pub returns-in-Wrong : goal.returns-in-Wrong
 returns-in-Wrong c = search fault_trace fits 20000
 
-pub returns-then-r-gt15 : goal.returns-then-r-gt15
-returns-then-r-gt15 c = search fault_flags fits 20000
+pub returns-then-flags-gt15 : goal.returns-then-flags-gt15
+returns-then-flags-gt15 c = search fault_flags fits 20000
 
 pub returns : goal.returns
 returns c = search fault_none fits 20000
