@@ -10,8 +10,8 @@ use Rattle.text.specs.Inner.{Short, Within}
 use Rattle.text.specs.declared.Writer.{Writer}
 use Rattle.text.specs.Writing.{HasRoom, Wrote, WroteWithin}
 use Rattle.text.proofs.Digits.{length_most}
-use Rattle.text.proofs.Pieces.{room_after, wrote_none}
-use Rattle.text.proofs.Within.{begun_within, byte_short, room_within, wider, within, within_number, within_then}
+use Rattle.text.proofs.Pieces.{wrote_none}
+use Rattle.text.proofs.Within.{begun_within, byte_short, wider, within, within_number, within_then}
 use Rattle.records.specs.declared.Places.{Places}
 use Rattle.records.specs.declared.Places.TheVariants.{Nowhere, One, Two}
 use Rattle.records.specs.Refusals.{places_in}
@@ -21,7 +21,7 @@ use Rattle.refusal_line.specs.RefusalLine.{blank_before, refusal_line}
 
 module _ (u v : Writer) (p : ℕ) (h : HasRoom 21 u) (x : Wrote (0x20 ∷ []) u v) where
   pub place_fits : HasRoom (length (decimal_of p)) v
-  place_fits = omega (arith, length_most p, room_after 20 (0x20 ∷ []) u v h x)
+  place_fits = omega (arith, length_most p, x.next_is, x.keeps)
 
   pub place_within : (w : Writer) → Wrote (decimal_of p) v w → WroteWithin 21 (0x20 ∷ decimal_of p) u w
   place_within w y = within_then (within 1 x (omega arith)) (within 20 y (length_most p)) (omega arith)
@@ -36,9 +36,6 @@ module _ (u : Writer) (p : Places) where
   pub places_one : (first : ℕ) (w : Writer) → p ≡ One first → WroteWithin 21 (0x20 ∷ decimal_of first) u w → WroteWithin 42 (blank_before (places_in p)) u w
   unfolding blank_before
   places_one first w e x = rw (e, append-nil) (wider 42 (omega arith) x)
-
-  pub second_fits : (first : ℕ) (v : Writer) → HasRoom 42 u → WroteWithin 21 (0x20 ∷ decimal_of first) u v → HasRoom 21 v
-  second_fits first v h x = room_within 21 21 (0x20 ∷ decimal_of first) u v h x
 
   pub places_two : (first second : ℕ) (v w : Writer) → p ≡ Two first second → HasRoom 42 u
       → WroteWithin 21 (0x20 ∷ decimal_of first) u v → WroteWithin 21 (0x20 ∷ decimal_of second) v w → WroteWithin 42 (blank_before (places_in p)) u w
@@ -62,14 +59,14 @@ module _ (b : List ℕ) (number y : ℕ) (p : Places) (t u v : Writer) (e : y �
     numbered = within_number short x
 
     pub places_fit : HasRoom 42 u
-    places_fit = omega (arith, room_within 3 43 (decimal_of number) t u begun numbered)
+    places_fit = omega (arith, begun, numbered.short, numbered.keeps)
 
     module _ (z : WroteWithin 42 (blank_before (places_in p)) u v) where
       placed : WroteWithin 45 (decimal_of number ++ blank_before (places_in p)) t v
       placed = within_then numbered z (omega (arith, begun))
 
       pub end_fits : HasRoom 1 v
-      end_fits = room_within 45 1 (decimal_of number ++ blank_before (places_in p)) t v begun placed
+      end_fits = omega (arith, begun, placed.short, placed.keeps)
 
       pub refusal_written : (w : Writer) → Wrote (0x0a ∷ []) v w → Within 46 0 (refusal_line number (places_in p)) b w.out.now w.at
       unfolding refusal_line

@@ -9,15 +9,15 @@ use Rattle.text.specs.Inner.{Short, Within}
 use Rattle.text.specs.declared.Writer.{Writer}
 use Rattle.text.specs.Writing.{HasRoom, Wrote, WroteWithin}
 use Rattle.text.proofs.Digits.{length_decimal}
-use Rattle.text.proofs.Pieces.{length_written, written, wrote_then}
+use Rattle.text.proofs.Pieces.{written, wrote_then}
 
 -- a piece that is so short
 pub within : {p : List ℕ} {u w : Writer} (k : ℕ) → Wrote p u w → length p ≤ k → WroteWithin k p u w
-within k x h = record { same = x.same; next_is = x.next_is; now_is = x.now_is; short = omega (arith, x.next_is) }
+within k x h = record { same = x.same; keeps = x.keeps; next_is = x.next_is; now_is = x.now_is; short = omega (arith, x.next_is) }
 
 -- what was written, without its bound
 pub unbound : {k : ℕ} {p : List ℕ} {u w : Writer} → WroteWithin k p u w → Wrote p u w
-unbound x = record { same = x.same; next_is = x.next_is; now_is = x.now_is }
+unbound x = record { same = x.same; keeps = x.keeps; next_is = x.next_is; now_is = x.now_is }
 
 -- at most so many are at most more
 pub wider : {j : ℕ} {p : List ℕ} {u w : Writer} (k : ℕ) → j ≤ k → WroteWithin j p u w → WroteWithin k p u w
@@ -31,11 +31,6 @@ within_number {d} s x = rw (← s.is) (within d x s.short)
 pub within_then : {j k : ℕ} {p q : List ℕ} {u v w : Writer} → WroteWithin j p u v → WroteWithin k q v w → HasRoom j u → WroteWithin (j + k) (p ++ q) u w
 within_then {j = j} {k = k} {p = p} {q = q} {u = u} {v = v} {w = w} x y h =
     within (j + k) (wrote_then p q u v w (omega (arith, x.short, x.next_is)) (unbound x) (unbound y)) (simp length-append (omega (arith, x.short, x.next_is, y.short, y.next_is)))
-
--- what is behind a piece that is so short
-pub room_within : (k n : ℕ) (p : List ℕ) (u w : Writer) → HasRoom (k + n) u → WroteWithin k p u w → HasRoom n w
-room_within k n p u w h x =
-    omega (arith, x.short, x.next_is, length_written u.at w.at p u.out.now w.out.now (omega (arith, x.short, x.next_is)) (written (unbound x)))
 
 -- a writer that began at the start of a buffer has written so far
 pub begun_within : (k : ℕ) (p b : List ℕ) (u w : Writer) → u.out.now ≡ b → u.at ≡ 0 → WroteWithin k p u w → Within k 0 p b w.out.now w.at

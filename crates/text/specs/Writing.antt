@@ -17,12 +17,14 @@ pub record Begins (lent : MutBor (List ℕ)) (w : Writer) : Type 0 where
 -- a piece was written where the writer was, into the same buffer
 pub record Wrote (piece : List ℕ) (old new : Writer) : Type 0 where
   pub same : new.out.ghost_name ≡ old.out.ghost_name
+  pub keeps : length new.out.now ≡ length old.out.now
   pub next_is : new.at ≡ old.at + length piece
   pub now_is : new.out.now ≡ put old.at piece old.out.now
 
 -- and it has so many bytes at most
 pub record WroteWithin (most : ℕ) (piece : List ℕ) (old new : Writer) : Type 0 where
   pub same : new.out.ghost_name ≡ old.out.ghost_name
+  pub keeps : length new.out.now ≡ length old.out.now
   pub next_is : new.at ≡ old.at + length piece
   pub now_is : new.out.now ≡ put old.at piece old.out.now
   pub short : new.at ≤ old.at + most

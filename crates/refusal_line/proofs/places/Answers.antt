@@ -1,5 +1,5 @@
 -- `refusal_line::places` meets its contract: no place, one or two. Assumes nothing.
-use Rattle.refusal_line.proofs.Refusing.{places_none, places_one, second_fits, places_two}
+use Rattle.refusal_line.proofs.Refusing.{places_none, places_one, places_two}
 use Rattle.refusal_line.proofs.places.Goals as goal
 
 pub returns-in-Nowhere : goal.returns-in-Nowhere
@@ -7,9 +7,6 @@ returns-in-Nowhere c = search places_none
 
 pub returns-in-One : goal.returns-in-One
 returns-in-One c = search places_one
-
-pub place-requires-in-Two-2 : goal.place-requires-in-Two-2
-place-requires-in-Two-2 c = search second_fits
 
 pub returns-in-Two : goal.returns-in-Two
 returns-in-Two c = search places_two

@@ -4,4 +4,4 @@ use Rattle.text.proofs.Pieces.{byte_written, wrote}
 use Rattle.text.proofs.Writer.byte.Goals as goal
 
 pub returns : goal.returns
-returns c = wrote refl (search byte_written)
+returns c = wrote refl c.requires (search byte_written)
