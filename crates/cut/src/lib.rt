@@ -102,9 +102,7 @@ pub fn cut_unit(
     ensures { Cuts shape kept from unit.now held.old done.old result held.new done.new }
 {
     let cut = places(shape, kept, from);
-    let begin = cut.begin;
-    let rest = cut.rest;
     complete(shape, kept, from, unit, held, done);
-    keep(begin, rest, unit, held);
+    keep(cut.begin, cut.rest, unit, held);
     cut
 }

@@ -1,39 +1,33 @@
 // A trace in double quotes, read from behind its opening quote on and written. The definitions stand in specs/Quotes.antt.
 #![tactic(auto)]
 
-ghost use Rattle.std.specs.Prelude.{◌≡◌, false, [], ◌∷◌, ◌+◌, ◌*◌, ◌<◌, ◌≤◌, length};
+ghost use Rattle.std.specs.Prelude.{◌≡◌, false, [], ◌∷◌, ◌+◌, ◌*◌, ◌≤◌, length, MatchOption};
 ghost use Rattle.text.specs.Inner.{Written};
-ghost use Rattle.quotes.specs.Quotes.{in_quotes, behind_quotes, doubled, width_at};
+ghost use Rattle.quotes.specs.Quotes.{in_quotes, behind_quotes, doubled, Closes, Says};
 
 const QUOTE: u8 = 0x22;
 
-// How many bytes the character at place i takes; 0 where the quote there closes the field.
-fn width(s: &[u8], i: usize) -> usize
-    requires { i < length s.now }
-    ensures { (result ≡ width_at s.now i) × (i + result ≤ length s.now) }
+// The first character that the rest of a field says, and what stands behind it; none at the closing quote, nor where nothing is left.
+fn next(s: &[u8]) -> Option<(u8, &[u8])>
+    ensures { MatchOption result (Closes s.now) (λ p. Says s.now p.0 p.1.now) }
 {
-    if s[i] != QUOTE {
-        return 1;
+    let (b, further) = s.split_first()?;
+    if *b != QUOTE {
+        return Some((*b, further));
     }
-    if split::begins(split::from(s, i + 1), QUOTE) {
-        return 2;
-    }
-    0
+    let further = further.strip_prefix(&[QUOTE])?;
+    Some((QUOTE, further))
 }
 
 // What stands behind the closing quote.
 pub fn behind(s: &[u8]) -> &[u8]
     ensures { result.now ≡ behind_quotes false s.now }
 {
-    let mut i = 0;
-    while i < s.len() {
-        let w = width(s, i);
-        if w < 1 {
-            return split::from(s, i + 1);
-        }
-        i += w;
+    let mut rest = s;
+    while let Some((_, further)) = next(rest) {
+        rest = further;
     }
-    split::from(s, i)
+    split::from(rest, 1)
 }
 
 // How many characters the field says.
@@ -41,14 +35,10 @@ pub fn count(s: &[u8]) -> usize
     ensures { result ≡ length (in_quotes false s.now) }
 {
     let mut n = 0;
-    let mut i = 0;
-    while i < s.len() {
-        let w = width(s, i);
-        if w < 1 {
-            return n;
-        }
+    let mut rest = s;
+    while let Some((_, further)) = next(rest) {
         n += 1;
-        i += w;
+        rest = further;
     }
     n
 }
@@ -59,14 +49,10 @@ pub fn characters(out: &mut [u8], at: usize, s: &[u8]) -> usize
     ensures { Written at (in_quotes false s.now) out.old out.new result }
 {
     let mut n = at;
-    let mut i = 0;
-    while i < s.len() {
-        let w = width(s, i);
-        if w < 1 {
-            return n;
-        }
-        n = text::byte(out, n, s[i]);
-        i += w;
+    let mut rest = s;
+    while let Some((b, further)) = next(rest) {
+        n = text::byte(out, n, b);
+        rest = further;
     }
     n
 }
@@ -88,10 +74,8 @@ pub fn double(out: &mut [u8], at: usize, s: &[u8]) -> usize
     ensures { (Written at (doubled s.now) out.old out.new result) × (result ≤ at + 2 * length s.now) }
 {
     let mut e = at;
-    let mut i = 0;
-    while i < s.len() {
-        e = character(out, e, s[i]);
-        i += 1;
+    for b in s {
+        e = character(out, e, *b);
     }
     e
 }

@@ -1,5 +1,5 @@
 -- What the register's functions and the tests of a message come to, from what their calls ensure. Assumes nothing.
-use mathlib.Core.Path.{◌≡◌, refl, ap, ◌∙◌}
+use mathlib.Core.Path.{◌≡◌, refl, ◌∙◌}
 use mathlib.Core.Bool.{Bool, ◌&&◌}
 use mathlib.Core.List.{List}
 use Prim.Native.Nat.{ℕ, ◌+◌, ◌*◌, ◌<◌}
@@ -12,10 +12,10 @@ use Rattle.trace_message.proofs.Bytewise.{byte_in, seven_in}
 
 -- ---- the register
 
--- the byte b, widened to v
-module _ (r b v q : ℕ) (low : r < 128) (v-is : v ≡ b) (byte : v < 256) (q-is : q ≡ reduced (bit_xor (bit_xor (r * 16) (r * 2)) v)) where
+-- the byte b, as the number v
+module _ (r b v q : ℕ) (low : r < 128) (v-is : v ≡ b) (byte : b < 256) (q-is : q ≡ reduced (bit_xor (bit_xor (r * 16) (r * 2)) v)) where
   pub byte_is : q ≡ bits_in 8 r b
-  byte_is = q-is ∙ byte_in r v low byte ∙ ap (bits_in 8 r) v-is
+  byte_is = q-is ∙ rw v-is (byte_in r b low byte)
 
   pub byte_low : q < 128
   byte_low = rw byte_is (bits_lt 8 r b low)

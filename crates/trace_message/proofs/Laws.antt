@@ -1,16 +1,18 @@
 -- One turn of each loop, and each way out. Assumes nothing.
-use mathlib.Core.Path.{◌≡◌, refl, sym, ap, ◌∙◌}
-use mathlib.Core.Bool.{Bool, true, false, ◌&&◌}
+use mathlib.Core.Path.{◌≡◌, refl, ap, ◌∙◌}
+use mathlib.Core.Bool.{Bool, false, ◌&&◌}
 use mathlib.Core.List.{List, [], ◌∷◌}
 use Prim.Native.Nat.{ℕ, suc, ◌+◌, ◌-◌, ◌*◌, ◌<◌, ◌≤◌}
 use native.Mathlib.Numerals.{add-one}
 use native.Mathlib.Omega.{arith}
-use borrow.Author.Tests.{eq-eqb, ne_eqb, lt-ltb, le-ltb, ltb-true}
+use borrow.Author.Tests.{eq-eqb, ne_eqb, ltb-true}
+use lib.Pointwise.{pointwise}
+use Rattle.std.specs.List.{list_all}
 use lib.ListN.{length, take, drop, get_or, drop_of_length-le}
 use lib.Seq.{drop-cons, take_all}
 use lib.Bits.{xor_lt}
 use lib.Dec.{eqb, ltb, lit<}
-use Rattle.laws.proofs.Tests.{by_test, and_assoc, and_true}
+use Rattle.laws.proofs.Tests.{by_test}
 use Rattle.trace_message.specs.Message.{top_bits_clear, good_message, trace_check, alike}
 use Rattle.trace_message.specs.InnerRegister.{shifted, bits_in, bytes_in}
 
@@ -34,35 +36,21 @@ bytes_end s i r p h e = rw drop_of_length-le at e
 
 -- ---- top bits
 
-module _ (s : List ℕ) (i : ℕ) (p : Bool) where
-  pub clear_turn : i < length s → get_or s i 0 < 0x80 → top_bits_clear (drop i s) ≡ p → top_bits_clear (drop (i + 1) s) ≡ p
-  unfolding top_bits_clear
-  clear_turn h q e = rw add-one (rw (drop-cons s i 0 h, lt-ltb (get_or s i 0) 0x80 q) at e)
-
-  pub clear_not : i < length s → 0x80 ≤ get_or s i 0 → top_bits_clear (drop i s) ≡ p → false ≡ p
-  unfolding top_bits_clear
-  clear_not h q e = rw (drop-cons s i 0 h, le-ltb (get_or s i 0) 0x80 q) at e
-
-  pub clear_end : length s ≤ i → top_bits_clear (drop i s) ≡ p → true ≡ p
-  unfolding top_bits_clear
-  clear_end h e = rw drop_of_length-le at e
+-- the test of each character is the definition
+pub clear_each : (s : List ℕ) → list_all (λ b. ltb b 0x80) s ≡ top_bits_clear s
+unfolding top_bits_clear
+clear_each [] = refl
+clear_each (b ∷ s) = ap (λ (p : Bool). ltb b 0x80 && p) (clear_each s)
 
 -- ---- two traces
 
--- `all` is whether the bytes before i are the same; what it says with the rest is p
-module _ (x y : List ℕ) (i : ℕ) (all p : Bool) (l : length x ≡ length y) where
-  pub alike_turn : i < length x → (all && alike (drop i x) (drop i y)) ≡ p → ((all && eqb (get_or x i 0) (get_or y i 0)) && alike (drop (i + 1) x) (drop (i + 1) y)) ≡ p
-  unfolding alike
-  alike_turn h e =
-      rw add-one
-      (and_assoc all (eqb (get_or x i 0) (get_or y i 0)) (alike (drop (suc i) x) (drop (suc i) y))
-      ∙ (rw (drop-cons x i 0 h, drop-cons y i 0 (omega arith)) at e))
-
-  pub alike_end : length x ≤ i → (all && alike (drop i x) (drop i y)) ≡ p → all ≡ p
-  unfolding alike
-  alike_end h e =
-      let k : length y ≤ i = omega arith in
-      sym (and_true all) ∙ (rw (drop_of_length-le x h, drop_of_length-le y k) at e)
+-- the library's equality of two slices is the definition
+pub alike_each : (x y : List ℕ) → pointwise eqb x y ≡ alike x y
+unfolding alike
+alike_each [] [] = refl
+alike_each [] (b ∷ y) = refl
+alike_each (a ∷ x) [] = refl
+alike_each (a ∷ x) (b ∷ y) = ap (λ (p : Bool). eqb a b && p) (alike_each x y)
 
 -- ---- the host's trace check
 

@@ -6,13 +6,6 @@ ghost use Rattle.std.specs.Prelude.{◌≡◌, ◌<◌};
 ghost use Rattle.trace_message.specs.Message.{check7, start_byte, top_bits_clear, good_message, trace_check, alike};
 ghost use Rattle.trace_message.specs.InnerRegister.{bits_in, bytes_in, reduced};
 
-// A byte as a polynomial: its top bit is the coefficient of x^7.
-fn wide(x: u8) -> u32
-    ensures { (result ≡ x) × (result < 256) }
-{
-    x as u32
-}
-
 // x^3 + 1 for x^7: of a polynomial below x^11 this leaves the remainder.
 fn reduce(t: u32) -> u32
     ensures { result ≡ reduced t }
@@ -20,14 +13,13 @@ fn reduce(t: u32) -> u32
     (t % 128) ^ (t / 128) ^ (t / 128 * 8)
 }
 
-// One more byte in the register, its eight bits at once, since x^8 leaves x^4 + x: the theorem `byte_in` (proofs/Bytewise.antt) says so of every register and byte.
+// One more byte in the register, its top bit the coefficient of x^7; its eight bits at once, since x^8 leaves x^4 + x: the theorem `byte_in` (proofs/Bytewise.antt) says so of every register and byte.
 // This is for speed. Bit by bit a message takes some six times as long; a table of what x^8 leaves of each register takes longer too, as it is copied to the stack first.
 fn byte(r: u32, b: u8) -> u32
     requires { r < 128 }
     ensures { (result ≡ bits_in 8 r b) × (result < 128) }
 {
-    let v = wide(b);
-    reduce((r * 16) ^ (r * 2) ^ v)
+    reduce((r * 16) ^ (r * 2) ^ u32::from(b))
 }
 
 // The register times x^7, its seven bits 0 at once, since x^7 leaves x^3 + 1: the theorem `seven_in`.
@@ -44,10 +36,8 @@ fn bytes(start: u32, s: &[u8]) -> u32
     ensures { (result ≡ bytes_in start s.now) × (result < 128) }
 {
     let mut r = start;
-    let mut i = 0;
-    while i < s.len() {
-        r = byte(r, s[i]);
-        i += 1;
+    for b in s {
+        r = byte(r, *b);
     }
     r
 }
@@ -66,14 +56,7 @@ pub fn start_byte(characters: &[u8]) -> u8
 fn top_bits_clear(s: &[u8]) -> bool
     ensures { result ≡ top_bits_clear s.now }
 {
-    let mut i = 0;
-    while i < s.len() {
-        if 0x80 <= s[i] {
-            return false;
-        }
-        i += 1;
-    }
-    true
+    s.iter().all(|b| *b < 0x80)
 }
 
 // Whether a start byte and characters are a good message. What is received may hold any byte below 80: 20 to 7E is asked of settings.
@@ -94,18 +77,8 @@ pub fn trace_check(s: &[u8]) -> bool
 }
 
 // Whether two traces are the same, byte for byte and as long: a trailing space is a byte like any other.
-// Every byte is looked at, with no way out of the loop, so that the compiler can take many at a time.
 pub fn same(x: &[u8], y: &[u8]) -> bool
     ensures { result ≡ alike x.now y.now }
 {
-    if x.len() != y.len() {
-        return false;
-    }
-    let mut all = true;
-    let mut i = 0;
-    while i < x.len() {
-        all = all & (x[i] == y[i]);
-        i += 1;
-    }
-    all
+    x == y
 }

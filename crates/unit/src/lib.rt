@@ -1,7 +1,7 @@
 // A unit's bytes, written: the header, and the run of container bytes after it. The definitions stand in specs/Unit.antt. The unit source rests on this crate.
 #![tactic(auto)]
 
-ghost use Rattle.std.specs.Prelude.{◌≡◌, ◌++◌, ◌-◌, ◌≤◌, min, length, take, drop};
+ghost use Rattle.std.specs.Prelude.{◌≡◌, ◌++◌, ◌-◌, ◌≤◌, length, take, drop};
 ghost use Rattle.unit.specs.Unit.{group_of, head_of, run_of};
 ghost use Rattle.unit.specs.Inner.{Head, Pour};
 
@@ -25,20 +25,13 @@ pub fn header(step: usize, w: u16, from: usize, unit: &mut [u8])
     copier::fill(&mut unit[two..from], 0);
 }
 
-// The smaller of the two.
-fn least(a: usize, b: usize) -> usize
-    ensures { result ≡ min a b }
-{
-    if a < b { a } else { b }
-}
-
 // The run: what is left of the current container, and then the next, from `from` to the unit's end.
 pub fn pour(current: &[u8], next: &[u8], sent: usize, from: usize, unit: &mut [u8])
     requires { Pour current.now next.now sent from unit.old }
     ensures { unit.new ≡ take from unit.old ++ run_of (length unit.old - from) sent current.now next.now }
 {
     let room = unit.len() - from;
-    let first = least(room, current.len() - sent);
+    let first = room.min(current.len() - sent);
     let e = sent + first;
     let mid = from + first;
     let second = room - first;

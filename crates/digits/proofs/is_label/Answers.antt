@@ -1,9 +1,11 @@
 -- `digits::is_label` meets its contract. Assumes nothing.
-use Rattle.digits.proofs.Laws.{label_short, label_two}
+use native.Mathlib.Omega.{arith}
+use Rattle.digits.proofs.Laws.{label_two, label_not}
 use Rattle.digits.proofs.is_label.Goals as goal
 
-pub returns-then-s-ne2 : goal.returns-then-s-ne2
-returns-then-s-ne2 c = search (label_short, c.if-s-ne2.true)
+pub returns-then-is_ascii_hexdigit : goal.returns-then-is_ascii_hexdigit
+returns-then-is_ascii_hexdigit c =
+    label_two c.args.s.now (omega arith) c.is_ascii_hexdigit.result c.is_ascii_hexdigit.ensures.value _ c.if-is_ascii_hexdigit.true c.is_ascii_hexdigit-then-is_ascii_hexdigit.ensures.value
 
-pub returns : goal.returns
-returns c = search label_two
+pub returns-else-is_ascii_hexdigit : goal.returns-else-is_ascii_hexdigit
+returns-else-is_ascii_hexdigit c = label_not c.args.s.now (omega arith) c.is_ascii_hexdigit.result c.is_ascii_hexdigit.ensures.value c.if-is_ascii_hexdigit.false

@@ -1,33 +1,17 @@
--- `digits::value` meets its contract: what the digits before i say, with the rest still to say, is the number. Assumes nothing.
-use mathlib.Core.Path.{refl}
+-- `digits::value` meets its contract: what the digits before this one say, with the rest still to say, is the number. Assumes nothing.
 use native.Mathlib.Omega.{arith}
-use borrow.Author.Rules.{rules}
-use Rattle.digits.proofs.Laws.{value_digit, value_rest, value_turn, value_end, value_grows, value_short, value_less}
+use Rattle.std.proofs.Common.{◌<◌}
+use Rattle.digits.proofs.Laws.{digit_range, value_digit, value_rest, value_turn, value_end, value_grows, value_less}
 use Rattle.digits.proofs.value.Goals as goal
 
-pub loop-i-init : goal.loop-i-init
-loop-i-init c = (omega arith, (omega arith, (search rules, refl)))
+pub overflow_sub-b : goal.overflow_sub-b
+overflow_sub-b c = omega (arith, digit_range _ (value_digit c.args.s.now c.loop-b.b-index c.loop-b-test.true c.loop-b.invariant.1.0))
 
-pub overflow_mul-v : goal.overflow_mul-v
-overflow_mul-v c = let h = value_short c.loop-i.v c.loop-i.i c.loop-i.invariant.1.0 (omega arith) in omega arith
-
-pub bounds-s-i : goal.bounds-s-i
-bounds-s-i c = omega arith
-
-pub digit-requires : goal.digit-requires
-digit-requires c = search value_digit
-
-pub overflow_add-v : goal.overflow_add-v
-overflow_add-v c = let l = c.loop-i in let h = value_short l.v l.i l.invariant.1.0 (omega arith) in omega arith
-
-pub overflow_add-i : goal.overflow_add-i
-overflow_add-i c = omega arith
-
-pub loop-i-smaller : goal.loop-i-smaller
-loop-i-smaller c = omega arith
-
-pub loop-i-preserved : goal.loop-i-preserved
-loop-i-preserved c = (omega arith, (search value_grows, (search value_rest, search value_turn)))
+pub loop-b-preserved : goal.loop-b-preserved
+loop-b-preserved c =
+    let h = digit_range _ (value_digit c.args.s.now c.loop-b.b-index c.loop-b-test.true c.loop-b.invariant.1.0) in
+    let d : c.from.result < 10 = omega arith in
+    (search value_grows, (search value_rest, search value_turn))
 
 pub returns : goal.returns
 returns c = (search value_end, search value_less)

@@ -2,6 +2,10 @@
 use Rattle.overhead.specs.Labels.{plm_of}
 use Rattle.overhead.proofs.mismatch.Goals as goal
 
-pub returns : goal.returns
+pub returns-then-a : goal.returns-then-a
 unfolding plm_of
-returns c = simp c.label_fits.ensures
+returns-then-a c = simp (c.if-a.true, c.label_fits.ensures)
+
+pub returns-else-a : goal.returns-else-a
+unfolding plm_of
+returns-else-a c = simp c.if-a.false

@@ -1,28 +1,15 @@
 -- `quotes::count` meets its contract: those counted, with those of the rest, are all. Assumes nothing.
+use mathlib.Core.Path.{ap}
 use native.Mathlib.Omega.{arith}
-use Rattle.quotes.proofs.Inside.{count_turn, count_hit, count_end}
+use lib.ListN.{length}
+use Rattle.quotes.proofs.Laws.{said_in, said_less, closes_in}
 use Rattle.quotes.proofs.count.Goals as goal
 
-pub loop-i-init : goal.loop-i-init
-loop-i-init c = (omega arith, (omega arith, omega arith))
+pub loop-further-smaller : goal.loop-further-smaller
+loop-further-smaller c = omega (arith, said_less _ _ _ c.in-Some.ensures)
 
-pub width-w-requires : goal.width-w-requires
-width-w-requires c = omega arith
-
-pub returns-then-w-lt1 : goal.returns-then-w-lt1
-returns-then-w-lt1 c = search count_hit
-
-pub overflow_add-n : goal.overflow_add-n
-overflow_add-n c = omega arith
-
-pub overflow_add-i : goal.overflow_add-i
-overflow_add-i c = omega arith
-
-pub loop-i-smaller : goal.loop-i-smaller
-loop-i-smaller c = omega arith
-
-pub loop-i-preserved : goal.loop-i-preserved
-loop-i-preserved c = (omega arith, (omega arith, search count_turn))
+pub loop-further-preserved : goal.loop-further-preserved
+loop-further-preserved c = (omega (arith, said_less _ _ _ c.in-Some.ensures), omega (arith, ap length (said_in _ _ _ c.in-Some.ensures)))
 
 pub returns : goal.returns
-returns c = search count_end
+returns c = omega (arith, ap length (closes_in c.loop-further.rest.now c.in_default.ensures))

@@ -1,25 +1,14 @@
--- `split::place` meets its contract: no byte before i is b, so the rest decides. Assumes nothing.
-use native.Mathlib.Omega.{arith}
-use Rattle.split.proofs.Laws.{scan_hit, scan_turn, scan_end}
+-- `split::place` meets its contract: the first place, or the length where there is none. Assumes nothing.
+use lib.Dec.{eqb}
+use Rattle.std.proofs.Common.{rules, tests}
+use Rattle.std.proofs.lemmas.Iterator.{YieldsList-from_slice}
+use Rattle.std.proofs.lemmas.Iterator.Search.{position_from_yields_List}
+use Rattle.split.proofs.Laws.{place_is, place_within}
 use Rattle.split.proofs.place.Goals as goal
 
-pub loop-i-init : goal.loop-i-init
-loop-i-init c = (omega arith, omega arith)
-
-pub bounds-s-i : goal.bounds-s-i
-bounds-s-i c = omega arith
-
-pub returns-then-s-i : goal.returns-then-s-i
-returns-then-s-i c = (search scan_hit, omega arith)
-
-pub overflow_add-i : goal.overflow_add-i
-overflow_add-i c = omega arith
-
-pub loop-i-smaller : goal.loop-i-smaller
-loop-i-smaller c = omega arith
-
-pub loop-i-preserved : goal.loop-i-preserved
-loop-i-preserved c = (omega arith, search (scan_turn, c.if-s-i.false))
-
 pub returns : goal.returns
-returns c = (search scan_end, omega arith)
+returns c =
+    let s = c.args.s.now in
+    let b = c.args.b in
+    let found = position_from_yields_List (λ x. eqb x b) _ _ _ c.position.ensures.ran (YieldsList-from_slice s cc) (λ x r q k. search (rules, tests)) in
+    (place_is s b _ _ found c.unwrap_or.ensures, place_within s b _ _ found c.unwrap_or.ensures)

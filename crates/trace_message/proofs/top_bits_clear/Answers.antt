@@ -1,26 +1,13 @@
--- `trace_message::top_bits_clear` meets its contract: no byte before i has its top bit set, and what is left decides. Assumes nothing.
-use mathlib.Core.Path.{refl}
-use native.Mathlib.Omega.{arith}
-use Rattle.trace_message.proofs.Laws.{clear_turn, clear_not, clear_end}
+-- `trace_message::top_bits_clear` meets its contract: the test of each character is the definition. Assumes nothing.
+use mathlib.Core.Path.{◌∙◌}
+use lib.Dec.{ltb}
+use Rattle.std.proofs.Common.{rules, tests}
+use Rattle.std.proofs.lemmas.Iterator.{YieldsList-from_slice}
+use Rattle.std.proofs.lemmas.Iterator.Search.{all_from_yields_List}
+use Rattle.trace_message.proofs.Laws.{clear_each}
 use Rattle.trace_message.proofs.top_bits_clear.Goals as goal
 
-pub loop-i-init : goal.loop-i-init
-loop-i-init c = (omega arith, refl)
-
-pub bounds-s-i : goal.bounds-s-i
-bounds-s-i c = omega arith
-
-pub returns-then-s-i-ge128 : goal.returns-then-s-i-ge128
-returns-then-s-i-ge128 c = search clear_not
-
-pub overflow_add-i : goal.overflow_add-i
-overflow_add-i c = omega arith
-
-pub loop-i-smaller : goal.loop-i-smaller
-loop-i-smaller c = omega arith
-
-pub loop-i-preserved : goal.loop-i-preserved
-loop-i-preserved c = (omega arith, search clear_turn)
-
 pub returns : goal.returns
-returns c = search clear_end
+returns c =
+    let s = c.args.s.now in
+    all_from_yields_List (λ b. ltb b 0x80) _ _ _ c.all.ensures.ran (YieldsList-from_slice s cc) (λ x b q k. search (rules, tests)) ∙ clear_each s
