@@ -10,8 +10,7 @@ use borrow.Author.Tests.{eq-eqb, ne_eqb, eqb-true, not-false}
 use Rattle.refusals.specs.Refusals.{due, given, number_of, says, answer_says, answer_of}
 use Rattle.refusals.specs.declared.Refusal.{Refusal}
 use Rattle.refusals.specs.declared.Refusal.TheVariants.{Container, Payload}
-use Rattle.refusals.specs.declared.Answer.{Answer}
-use Rattle.refusals.specs.declared.Answer.TheVariants.{Done, Refused}
+use Rattle.std.specs.Prelude.{Result, Ok, Err, ⊤}
 use Rattle.refusals.proofs.Wrong.{due_none, due_false, none_wrong, outcome_done, outcome_refused, Numbered, numbered_row, numbered_last, outcome_said}
 use Rattle.shape.specs.Shape.{Fit}
 use Rattle.shape.specs.declared.Shape.{Shape}
@@ -26,20 +25,20 @@ pub record Handable (s : Shape) (n m : ℕ) : Type 0 where
 -- ---- the answer, by the tests that led to it
 
 module _ (s : Shape) (n m : ℕ) where
-  pub answer_container : (n ≡ s.size → ⊥) → Refused Container ≡ answer_of (payload_faults s n m)
+  pub answer_container : (n ≡ s.size → ⊥) → Err Container ≡ answer_of (payload_faults s n m)
   unfolding payload_faults due answer_of
   answer_container h = rw (ne_eqb n s.size h)
 
-  pub answer_payload : n ≡ s.size → (m ≡ 9 * (s.columns - 1) → ⊥) → Refused Payload ≡ answer_of (payload_faults s n m)
+  pub answer_payload : n ≡ s.size → (m ≡ 9 * (s.columns - 1) → ⊥) → Err Payload ≡ answer_of (payload_faults s n m)
   unfolding payload_faults due answer_of
   answer_payload h k = rw (eq-eqb n s.size h, ne_eqb m (9 * (s.columns - 1)) k)
 
-  pub answer_done : n ≡ s.size → m ≡ 9 * (s.columns - 1) → Done ≡ answer_of (payload_faults s n m)
+  pub answer_done : n ≡ s.size → m ≡ 9 * (s.columns - 1) → Ok tt ≡ answer_of (payload_faults s n m)
   unfolding payload_faults due answer_of
   answer_done h k = rw (eq-eqb n s.size h, eq-eqb m (9 * (s.columns - 1)) k)
 
   -- a call that is done had nothing wrong with it
-  pub handable : (a : Answer) → a ≡ answer_of (payload_faults s n m) → a ≡ Done → Handable s n m
+  pub handable : (a : Result ⊤ Refusal) → a ≡ answer_of (payload_faults s n m) → a ≡ Ok tt → Handable s n m
   unfolding payload_faults
   handable a e d =
       let none = none_wrong (payload_faults s n m) (cc) in
@@ -52,14 +51,14 @@ module _ (s : Shape) (n m : ℕ) where
 
 -- ---- the ends of `hand`
 
-module _ (s : Shape) (container : List ℕ) (ais : Bool) (before : List ℕ) (a : Answer) (is : a ≡ answer_of (payload_faults s (length container) (length before))) where
+module _ (s : Shape) (container : List ℕ) (ais : Bool) (before : List ℕ) (a : Result ⊤ Refusal) (is : a ≡ answer_of (payload_faults s (length container) (length before))) where
   -- refused: the payload as it was
-  pub hand_refused : (x : Refusal) → a ≡ Refused x → HandsAs s container ais before (Refused x) before
+  pub hand_refused : (x : Refusal) → a ≡ Err x → HandsAs s container ais before (Err x) before
   unfolding payload_call
   hand_refused x e = rw (outcome_refused (payload_faults s (length container) (length before)) _ _ x cc)
 
   -- nothing is wrong: `strip` has the lengths it asks for
-  module _ (done : a ≡ Done) where
+  module _ (done : a ≡ Ok tt) where
     fine : Handable s (length container) (length before)
     fine = handable s (length container) (length before) a is done
 
@@ -69,19 +68,19 @@ module _ (s : Shape) (container : List ℕ) (ais : Bool) (before : List ℕ) (a 
     pub strip_container : Fit s → length container ≡ length before + 9
     strip_container f = omega (arith, f.nine, f.some, f.two, fine.container_is, fine.payload_is)
 
-  module _ (done : a ≡ Done) (after : List ℕ) where
-    granted : after ≡ payload_handed s container ais → HandsAs s container ais before Done after
+  module _ (done : a ≡ Ok tt) (after : List ℕ) where
+    granted : after ≡ payload_handed s container ais → HandsAs s container ais before (Ok tt) after
     unfolding payload_call
     granted e = rw (outcome_done (payload_faults s (length container) (length before)) _ _ cc, e)
 
     -- all ones were written
-    pub hand_ones : ais ≡ true → after ≡ replicate (length before) 0xff → HandsAs s container ais before Done after
+    pub hand_ones : ais ≡ true → after ≡ replicate (length before) 0xff → HandsAs s container ais before (Ok tt) after
     unfolding payload_handed
     hand_ones q e =
         granted (rw q (e ∙ ap (λ (n : ℕ). replicate n 0xff) (handable s (length container) (length before) a is done).payload_is))
 
     -- the payload was written
-    pub hand_payload : ais ≡ false → after ≡ payload_in s.columns container → HandsAs s container ais before Done after
+    pub hand_payload : ais ≡ false → after ≡ payload_in s.columns container → HandsAs s container ais before (Ok tt) after
     unfolding payload_handed
     hand_payload q e = granted (rw q e)
 
@@ -93,7 +92,7 @@ unfolding payload_faults says number_of
 payload_numbered s n m = search (numbered_row, numbered_last)
 
 -- so the answer says the table's
-pub hand_said : (s : Shape) (container : List ℕ) (ais : Bool) (before : List ℕ) (r : Answer) (after : List ℕ) → HandsAs s container ais before r after → Hands s container ais before r after
+pub hand_said : (s : Shape) (container : List ℕ) (ais : Bool) (before : List ℕ) (r : Result ⊤ Refusal) (after : List ℕ) → HandsAs s container ais before r after → Hands s container ais before r after
 unfolding payload_call
 hand_said s container ais before r after h =
     let n = length container in
@@ -104,5 +103,5 @@ hand_said s container ais before r after h =
     }
 
 -- one shape for another
-pub hand_as : (s t : Shape) (container : List ℕ) (ais : Bool) (before : List ℕ) (r : Answer) (after : List ℕ) → s ≡ t → HandsAs s container ais before r after → Hands t container ais before r after
+pub hand_as : (s t : Shape) (container : List ℕ) (ais : Bool) (before : List ℕ) (r : Result ⊤ Refusal) (after : List ℕ) → s ≡ t → HandsAs s container ais before r after → Hands t container ais before r after
 hand_as s t container ais before r after e h = hand_said t container ais before r after (rw e at h)

@@ -8,7 +8,7 @@ ghost use Rattle.refusals.specs.Refusals.{answer_of};
 ghost use Rattle.container.specs.Container.{rows_of, strip_of};
 ghost use Rattle.container.specs.Payload.{payload_faults, HandsAs, Hands};
 
-use refusals::{Answer, Refusal};
+use refusals::Refusal;
 use shape::Shape;
 
 // Each overhead byte and its row of payload, from the top.
@@ -51,41 +51,36 @@ fn strip(width: usize, container: &[u8], payload: &mut [u8])
 }
 
 // The answer to a payload call, by the lengths of what it is lent.
-fn payload_answer(shape: Shape, container: usize, payload: usize) -> Answer
+fn payload_answer(shape: Shape, container: usize, payload: usize) -> Result<(), Refusal>
     requires { Fit shape }
     ensures { result ≡ answer_of (payload_faults shape container payload) }
 {
     let full = 9 * (shape.columns - 1);
     if container != shape.size {
-        return Answer::Refused(Refusal::Container);
+        return Err(Refusal::Container);
     }
     if payload != full {
-        return Answer::Refused(Refusal::Payload);
+        return Err(Refusal::Payload);
     }
-    Answer::Done
+    Ok(())
 }
 
 // The payload of a container of any shape, all ones in its place where `ais` asks for it.
-fn hand(shape: Shape, container: &[u8], ais: bool, payload: &mut [u8]) -> Answer
+fn hand(shape: Shape, container: &[u8], ais: bool, payload: &mut [u8]) -> Result<(), Refusal>
     requires { Fit shape }
     ensures { HandsAs shape container.now ais payload.old result payload.new }
 {
-    match payload_answer(shape, container.len(), payload.len()) {
-        Answer::Refused(x) => {
-            return Answer::Refused(x);
-        }
-        Answer::Done => {}
-    }
+    payload_answer(shape, container.len(), payload.len())?;
     if ais {
         copier::fill(payload, 0xff);
-        return Answer::Done;
+        return Ok(());
     }
     strip(shape.columns - 1, container, payload);
-    Answer::Done
+    Ok(())
 }
 
 // The payload of a VC-4, or 2340 of FF where AIS is asked for. Refuses 3, 2.
-pub fn payload_call(container: &[u8], ais: bool, payload: &mut [u8]) -> Answer
+pub fn payload_call(container: &[u8], ais: bool, payload: &mut [u8]) -> Result<(), Refusal>
     ensures { Hands au4 container.now ais payload.old result payload.new }
 {
     hand(shape::au4_shape(), container, ais, payload)

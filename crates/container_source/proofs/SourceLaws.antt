@@ -13,8 +13,7 @@ use Rattle.settings.proofs.Refuses.{path_numbered}
 use Rattle.refusals.specs.Refusals.{Fault, given, due, number_of, says, answer_says, answer_of}
 use Rattle.refusals.specs.declared.Refusal.{Refusal}
 use Rattle.refusals.specs.declared.Refusal.TheVariants as wrong
-use Rattle.refusals.specs.declared.Answer.{Answer}
-use Rattle.refusals.specs.declared.Answer.TheVariants.{Done, Refused}
+use Rattle.std.specs.Prelude.{Result, Ok, Err, ⊤}
 use Rattle.refusals.proofs.Wrong.{due_none, due_false, none_wrong, outcome_done, outcome_refused, Numbered, numbered_row, numbered_both, numbered_last, outcome_said}
 use Rattle.refusals.proofs.Joined.{joined_refused, joined_done, joined_none}
 use Rattle.shape.specs.Shape.{Fit}
@@ -47,7 +46,7 @@ module _ (s : Shape) (place label : ℕ) (trace : List ℕ) (payload container v
       ++ (given 3 wrong.Container (not (eqb container s.size))
       ++ given 6 wrong.Violations (ltb 8 violations))
 
-  pub answer_state : 15 < place → Refused wrong.State ≡ answer_of faults
+  pub answer_state : 15 < place → Err wrong.State ≡ answer_of faults
   unfolding send_faults due answer_of
   answer_state h = rw (lt-ltb 15 place h)
 
@@ -56,36 +55,36 @@ module _ (s : Shape) (place label : ℕ) (trace : List ℕ) (payload container v
     unfolding send_faults due
     path_next = rw (le-ltb 15 place in_range) refl
 
-    module _ (r : Answer) (is-r : r ≡ answer_of (path_faults label trace)) where
-      pub answer_path : (x : Refusal) → r ≡ Refused x → Refused x ≡ answer_of faults
+    module _ (r : Result ⊤ Refusal) (is-r : r ≡ answer_of (path_faults label trace)) where
+      pub answer_path : (x : Refusal) → r ≡ Err x → Err x ≡ answer_of faults
       answer_path x h = sym (path_next ∙ joined_refused (path_faults label trace) lengths x (sym is-r ∙ h))
 
-      module _ (r-no : r ≡ Done) where
+      module _ (r-no : r ≡ Ok tt) where
         lengths_next : answer_of faults ≡ answer_of lengths
         lengths_next = path_next ∙ joined_done (path_faults label trace) lengths (sym is-r ∙ r-no)
 
-        pub answer_payload : (payload ≡ 9 * (s.columns - 1) → ⊥) → Refused wrong.Payload ≡ answer_of faults
+        pub answer_payload : (payload ≡ 9 * (s.columns - 1) → ⊥) → Err wrong.Payload ≡ answer_of faults
         unfolding due answer_of
         answer_payload h = sym (lengths_next ∙ rw (ne_eqb payload (9 * (s.columns - 1)) h) refl)
 
         module _ (full : payload ≡ 9 * (s.columns - 1)) where
-          pub answer_container : (container ≡ s.size → ⊥) → Refused wrong.Container ≡ answer_of faults
+          pub answer_container : (container ≡ s.size → ⊥) → Err wrong.Container ≡ answer_of faults
           unfolding due answer_of
           answer_container h = sym (lengths_next ∙ rw (eq-eqb payload (9 * (s.columns - 1)) full, ne_eqb container s.size h) refl)
 
           module _ (room : container ≡ s.size) where
-            pub answer_violations : 8 < violations → Refused wrong.Violations ≡ answer_of faults
+            pub answer_violations : 8 < violations → Err wrong.Violations ≡ answer_of faults
             unfolding due answer_of
             answer_violations h =
                 sym (lengths_next ∙ rw (eq-eqb payload (9 * (s.columns - 1)) full, eq-eqb container s.size room, lt-ltb 8 violations h) refl)
 
-            pub answer_done : violations ≤ 8 → Done ≡ answer_of faults
+            pub answer_done : violations ≤ 8 → Ok tt ≡ answer_of faults
             unfolding due answer_of
             answer_done h =
                 sym (lengths_next ∙ rw (eq-eqb payload (9 * (s.columns - 1)) full, eq-eqb container s.size room, le-ltb 8 violations h) refl)
 
   -- a call that is done had nothing wrong with it
-  pub sendable : (a : Answer) → a ≡ answer_of faults → a ≡ Done → Sendable s place label trace payload container violations
+  pub sendable : (a : Result ⊤ Refusal) → a ≡ answer_of faults → a ≡ Ok tt → Sendable s place label trace payload container violations
   unfolding send_faults
   sendable a e d =
       let p1 = due_none (ltb 15 place) _ _ (none_wrong faults cc) in
@@ -103,15 +102,15 @@ module _ (s : Shape) (place label : ℕ) (trace : List ℕ) (payload container v
 
 -- ---- the ends of `send`
 
-module _ (s : Shape) (state : State) (g : Given) (trace payload before : List ℕ) (a : Answer) (is : a ≡ answer_of (send_faults s state.place g.label trace (length payload) (length before) g.violations)) where
+module _ (s : Shape) (state : State) (g : Given) (trace payload before : List ℕ) (a : Result ⊤ Refusal) (is : a ≡ answer_of (send_faults s state.place g.label trace (length payload) (length before) g.violations)) where
   -- refused: the state and the container as they were
-  pub send_refused : (x : Refusal) → a ≡ Refused x → SendsAs s state g trace payload before (record { answer = Refused x; state = state }) before
+  pub send_refused : (x : Refusal) → a ≡ Err x → SendsAs s state g trace payload before (record { answer = Err x; state = state }) before
   unfolding container_source
   send_refused x e =
       rw (outcome_refused (send_faults s state.place g.label trace (length payload) (length before) g.violations) _ _ x cc)
 
   -- nothing is wrong: `overhead` and `rows` have what they ask for, and the next place is a byte
-  module _ (done : a ≡ Done) where
+  module _ (done : a ≡ Ok tt) where
     fine : Sendable s state.place g.label trace (length payload) (length before) g.violations
     fine = sendable s state.place g.label trace (length payload) (length before) g.violations a is done
 
@@ -133,11 +132,11 @@ module _ (s : Shape) (state : State) (g : Given) (trace payload before : List �
   -- sent: what the calls in it show, put together
   pub send_done :
       (overhead after : List ℕ) (parity : ℕ) →
-      a ≡ Done
+      a ≡ Ok tt
       → overhead ≡ overhead_of state g trace
       → after ≡ rows_of (s.columns - 1) overhead payload
       → parity ≡ parity_of after
-      → SendsAs s state g trace payload before (record { answer = Done; state = record { place = (state.place + 1) % 16; parity = parity } }) after
+      → SendsAs s state g trace payload before (record { answer = Ok tt; state = record { place = (state.place + 1) % 16; parity = parity } }) after
   unfolding container_source container_source_after container_sent
   send_done overhead after parity d o r p =
       rw (outcome_done (send_faults s state.place g.label trace (length payload) (length before) g.violations) _ _ cc, p, r, o)

@@ -1,11 +1,10 @@
 -- The container source: one call, as a function of all that it is given. 01, "Layouts" and "Refusal numbers".
-use Rattle.std.specs.Prelude.{◌≡◌, ℕ, ◌+◌, ◌%◌, not, List, [], ◌∷◌, ◌++◌, eqb, ltb, length}
+use Rattle.std.specs.Prelude.{◌≡◌, ℕ, ◌+◌, ◌%◌, not, List, [], ◌∷◌, ◌++◌, eqb, ltb, length, Ok, Err}
 use Rattle.parity.specs.Parity.{parity_of}
 use Rattle.settings.specs.Faults.{path_faults}
 use Rattle.refusals.specs.Refusals.{Fault, answer_says, given, said_by, outcome}
 use Rattle.refusals.specs.declared.Refusal.{Refusal}
 use Rattle.refusals.specs.declared.Refusal.TheVariants as wrong
-use Rattle.refusals.specs.declared.Answer.TheVariants.{Done, Refused}
 use Rattle.shape.specs.declared.Shape.{Shape}
 use Rattle.container.specs.Container.{payload_size, container_of}
 use Rattle.container_source.specs.Overhead.{overhead_of}
@@ -43,8 +42,8 @@ pub record SentOutcome : Type 0 where
 unfoldable pub container_source : Shape → State → Given → List ℕ → List ℕ → List ℕ → SentOutcome
 container_source s state g trace payload before =
     outcome (send_faults s state.place g.label trace (length payload) (length before) g.violations)
-    (record { sent = record { answer = Done; state = container_source_after s state g trace payload }; container = container_sent s state g trace payload })
-    (λ x. record { sent = record { answer = Refused x; state = state }; container = before })
+    (record { sent = record { answer = Ok tt; state = container_source_after s state g trace payload }; container = container_sent s state g trace payload })
+    (λ x. record { sent = record { answer = Err x; state = state }; container = before })
 
 -- what is answered is the call's, and the container is left so
 abbrev pub SendsAs : Shape → State → Given → List ℕ → List ℕ → List ℕ → Sent → List ℕ → Type 0

@@ -8,7 +8,7 @@ ghost use Rattle.refusals.specs.Refusals.{answer_of};
 ghost use Rattle.container_source.specs.Overhead.{j1_of, g1_of, overhead_of};
 ghost use Rattle.container_source.specs.Source.{fresh_container_source, send_faults, SendsAs, Sends};
 
-use refusals::{Answer, Refusal};
+use refusals::Refusal;
 use shape::Shape;
 
 // A source between two containers: the next place in the 16-byte message, and the parity of the container before.
@@ -40,7 +40,7 @@ pub struct Given {
 // The answer, and the state from then on: the old one where the call was refused.
 #[derive(Clone, Copy)]
 pub struct Sent {
-    pub answer: Answer,
+    pub answer: Result<(), Refusal>,
     pub state: State,
 }
 
@@ -97,30 +97,25 @@ fn answer(
     payload: usize,
     container: usize,
     violations: u8,
-) -> Answer
+) -> Result<(), Refusal>
     requires { Fit shape }
     ensures { result ≡ answer_of (send_faults shape place label characters payload container violations) }
 {
     let full = 9 * (shape.columns - 1);
     if 15 < place {
-        return Answer::Refused(Refusal::State);
+        return Err(Refusal::State);
     }
-    match settings::path_answer(label, &characters) {
-        Answer::Refused(x) => {
-            return Answer::Refused(x);
-        }
-        Answer::Done => {}
-    }
+    settings::path_answer(label, &characters)?;
     if payload != full {
-        return Answer::Refused(Refusal::Payload);
+        return Err(Refusal::Payload);
     }
     if container != shape.size {
-        return Answer::Refused(Refusal::Container);
+        return Err(Refusal::Container);
     }
     if 8 < violations {
-        return Answer::Refused(Refusal::Violations);
+        return Err(Refusal::Violations);
     }
-    Answer::Done
+    Ok(())
 }
 
 // One container of any shape.
@@ -145,20 +140,20 @@ fn send(
         container.len(),
         g.violations,
     ) {
-        Answer::Refused(x) => {
+        Err(x) => {
             return Sent {
-                answer: Answer::Refused(x),
+                answer: Err(x),
                 state: s,
             };
         }
-        Answer::Done => {}
+        Ok(()) => {}
     }
     let o = overhead(s, g, t);
     container::rows(shape.columns - 1, o, payload, container);
     let parity = parity::parity(container);
     let place = (s.place + 1) % 16;
     Sent {
-        answer: Answer::Done,
+        answer: Ok(()),
         state: State { place, parity },
     }
 }

@@ -5,7 +5,7 @@ use mathlib.Core.List.{List, [], ◌∷◌, ◌++◌, map}
 use Prim.Native.Nat.{ℕ}
 use lib.ListN.{replicate}
 use Rattle.refusals.specs.Refusals.{answer_number, answer_says, answer_of}
-use Rattle.refusals.specs.declared.Answer.TheVariants.{Done}
+use Rattle.std.specs.Prelude.{Ok}
 use Rattle.shape.specs.Shape.{au4}
 use Rattle.container.specs.Container.{rows_of, container_of, overhead_in}
 use Rattle.container.specs.Payload.{payload_faults}
@@ -48,7 +48,7 @@ pub first_overhead : overhead_in 261 (container_source au4 fresh_container_sourc
 unfolding source.opened given trace payload
 first_overhead = refl
 
-pub first_sent : (container_source au4 fresh_container_source given trace payload (replicate 2349 0)).sent ≡ record { answer = Done; state = record { place = 1; parity = 0xfb } }
+pub first_sent : (container_source au4 fresh_container_source given trace payload (replicate 2349 0)).sent ≡ record { answer = Ok tt; state = record { place = 1; parity = 0xfb } }
 unfolding source.opened given trace payload
 first_sent = refl
 

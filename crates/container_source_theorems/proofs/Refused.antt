@@ -9,8 +9,7 @@ use lib.Dec.{ltb}
 use lib.ListN.{length}
 use Rattle.refusals.specs.Refusals.{Fault, due, answer_of}
 use Rattle.refusals.specs.declared.Refusal.{Refusal}
-use Rattle.refusals.specs.declared.Answer.{Answer}
-use Rattle.refusals.specs.declared.Answer.TheVariants.{Done, Refused}
+use Rattle.std.specs.Prelude.{Result, Ok, Err, ⊤}
 use Rattle.refusals.proofs.Wrong.{none_done, outcome_answer, outcome_done, outcome_refused}
 use Rattle.refusals.proofs.Joined.{joined_refused}
 use Rattle.settings.specs.Faults.{path_faults, settings_answer}
@@ -42,34 +41,34 @@ module _ (s : Shape) (state : State) (g : Given) (trace payload before : List �
   source_answer = outcome_answer (λ (o : SentOutcome). o.sent.answer) faults _ _ refl (λ x. refl)
 
   -- a label and a trace that a host's check refuses are refused as it says in every call; only a state out of range comes before
-  pub source_checked : length trace ≡ 15 → ltb 15 state.place ≡ false → (x : Refusal) → settings_answer g.label trace ≡ Refused x
-      → (container_source s state g trace payload before).sent.answer ≡ Refused x
+  pub source_checked : length trace ≡ 15 → ltb 15 state.place ≡ false → (x : Refusal) → settings_answer g.label trace ≡ Err x
+      → (container_source s state g trace payload before).sent.answer ≡ Err x
   unfolding send_faults due
   source_checked fifteen inside x e = rw (source_answer, inside) (joined_refused (path_faults g.label trace) _ x (sym (check_path g.label trace fifteen) ∙ e))
 
   -- "A refusal returns its number and the old state. Nothing lent is written."
-  pub source_refused : (x : Refusal) → (container_source s state g trace payload before).sent.answer ≡ Refused x → container_source s state g trace payload before ≡ record { sent = record { answer = Refused x; state = state }; container = before }
+  pub source_refused : (x : Refusal) → (container_source s state g trace payload before).sent.answer ≡ Err x → container_source s state g trace payload before ≡ record { sent = record { answer = Err x; state = state }; container = before }
   unfolding container_source
   source_refused x e = outcome_refused faults _ _ x (sym source_answer ∙ e)
 
   -- whatever the refusal
-  pub source_kept : ((container_source s state g trace payload before).sent.answer ≡ Done → ⊥) → ((container_source s state g trace payload before).sent.state ≡ state) × ((container_source s state g trace payload before).container ≡ before)
+  pub source_kept : ((container_source s state g trace payload before).sent.answer ≡ Ok tt → ⊥) → ((container_source s state g trace payload before).sent.state ≡ state) × ((container_source s state g trace payload before).container ≡ before)
   source_kept h = go (container_source s state g trace payload before).sent.answer refl
     where
-      go : (a : Answer) → (container_source s state g trace payload before).sent.answer ≡ a → ((container_source s state g trace payload before).sent.state ≡ state) × ((container_source s state g trace payload before).container ≡ before)
-      go Done e = absurd (h e)
-      go (Refused x) e = (ap (λ (o : SentOutcome). o.sent.state) (source_refused x e), ap (λ (o : SentOutcome). o.container) (source_refused x e))
+      go : (a : Result ⊤ Refusal) → (container_source s state g trace payload before).sent.answer ≡ a → ((container_source s state g trace payload before).sent.state ≡ state) × ((container_source s state g trace payload before).container ≡ before)
+      go (Ok tt) e = absurd (h e)
+      go (Err x) e = (ap (λ (o : SentOutcome). o.sent.state) (source_refused x e), ap (λ (o : SentOutcome). o.container) (source_refused x e))
 
   -- any other call sends the container
-  pub source_done : (container_source s state g trace payload before).sent.answer ≡ Done → container_source s state g trace payload before ≡ record { sent = record { answer = Done; state = container_source_after s state g trace payload }; container = container_sent s state g trace payload }
+  pub source_done : (container_source s state g trace payload before).sent.answer ≡ Ok tt → container_source s state g trace payload before ≡ record { sent = record { answer = Ok tt; state = container_source_after s state g trace payload }; container = container_sent s state g trace payload }
   unfolding container_source
   source_done e = outcome_done faults _ _ (sym source_answer ∙ e)
 
   -- it is done exactly where no row applies
-  pub source_sendable : (container_source s state g trace payload before).sent.answer ≡ Done → Sendable s state.place g.label trace (length payload) (length before) g.violations
-  source_sendable e = sendable s state.place g.label trace (length payload) (length before) g.violations Done (sym (sym source_answer ∙ e)) refl
+  pub source_sendable : (container_source s state g trace payload before).sent.answer ≡ Ok tt → Sendable s state.place g.label trace (length payload) (length before) g.violations
+  source_sendable e = sendable s state.place g.label trace (length payload) (length before) g.violations (Ok tt) (sym (sym source_answer ∙ e)) refl
 
-  pub sendable_source : Sendable s state.place g.label trace (length payload) (length before) g.violations → (container_source s state g trace payload before).sent.answer ≡ Done
+  pub sendable_source : Sendable s state.place g.label trace (length payload) (length before) g.violations → (container_source s state g trace payload before).sent.answer ≡ Ok tt
   sendable_source a =
       source_answer ∙ sym (source-laws.answer_done s state.place g.label trace (length payload) (length before) g.violations a.place_is (answer_of (path_faults g.label trace)) refl (none_done (path_faults g.label trace) a.path_is) a.payload_is a.container_is a.violations_is)
 
@@ -81,17 +80,17 @@ module _ (s : Shape) (container : List ℕ) (ais : Bool) (before : List ℕ) whe
   payload_answer =
       outcome_answer (λ (o : Handed). o.answer) (payload_faults s (length container) (length before)) _ _ refl (λ x. refl)
 
-  pub payload_refused : (x : Refusal) → (payload_call s container ais before).answer ≡ Refused x → payload_call s container ais before ≡ record { answer = Refused x; payload = before }
+  pub payload_refused : (x : Refusal) → (payload_call s container ais before).answer ≡ Err x → payload_call s container ais before ≡ record { answer = Err x; payload = before }
   unfolding payload_call
   payload_refused x e = outcome_refused (payload_faults s (length container) (length before)) _ _ x (sym payload_answer ∙ e)
 
-  pub payload_done : (payload_call s container ais before).answer ≡ Done → payload_call s container ais before ≡ record { answer = Done; payload = payload_handed s container ais }
+  pub payload_done : (payload_call s container ais before).answer ≡ Ok tt → payload_call s container ais before ≡ record { answer = Ok tt; payload = payload_handed s container ais }
   unfolding payload_call
   payload_done e = outcome_done (payload_faults s (length container) (length before)) _ _ (sym payload_answer ∙ e)
 
-  pub payload_handable : (payload_call s container ais before).answer ≡ Done → Handable s (length container) (length before)
-  payload_handable e = handable s (length container) (length before) Done (sym (sym payload_answer ∙ e)) refl
+  pub payload_handable : (payload_call s container ais before).answer ≡ Ok tt → Handable s (length container) (length before)
+  payload_handable e = handable s (length container) (length before) (Ok tt) (sym (sym payload_answer ∙ e)) refl
 
-  pub handable_payload : Handable s (length container) (length before) → (payload_call s container ais before).answer ≡ Done
+  pub handable_payload : Handable s (length container) (length before) → (payload_call s container ais before).answer ≡ Ok tt
   handable_payload h =
       payload_answer ∙ sym (payload-laws.answer_done s (length container) (length before) h.container_is h.payload_is)

@@ -8,7 +8,7 @@ use lib.ListN.{length, get_or, take, drop}
 use lib.Seq.{drop-cons, take_all}
 use Rattle.parity.specs.Parity.{parity_of}
 use Rattle.trace_message.specs.Message.{message}
-use Rattle.refusals.specs.declared.Answer.TheVariants.{Done}
+use Rattle.std.specs.Prelude.{Ok}
 use Rattle.shape.specs.Shape.{Fit}
 use Rattle.shape.specs.declared.Shape.{Shape}
 use Rattle.container.specs.Container.{overhead_in}
@@ -22,7 +22,7 @@ use Rattle.container_source_theorems.proofs.Refused.{some_columns, source_done, 
 
 -- ---- one call that is not refused
 
-module _ (s : Shape) (state : State) (c : ContainerSourceCall) (done : (container_source_called s state c).sent.answer ≡ Done) where
+module _ (s : Shape) (state : State) (c : ContainerSourceCall) (done : (container_source_called s state c).sent.answer ≡ Ok tt) where
   next_place : (container_source_called s state c).sent.state.place ≡ (state.place + 1) % 16
   unfolding container_source_after
   next_place =
@@ -140,7 +140,7 @@ j1_fresh s calls n f ok trace fifteen one i l =
 
 module _ (s : Shape) (first : State) (calls : ℕ → ContainerSourceCall) where
   -- they do not count: the state before call k + m is that before call k, where those from k on were refused
-  pub refused_between : (k m : ℕ) → ((i : ℕ) → k ≤ i → i < k + m → (outcome_at s first calls i).sent.answer ≡ Done → ⊥) → state_at s first calls (k + m) ≡ state_at s first calls k
+  pub refused_between : (k m : ℕ) → ((i : ℕ) → k ≤ i → i < k + m → (outcome_at s first calls i).sent.answer ≡ Ok tt → ⊥) → state_at s first calls (k + m) ≡ state_at s first calls k
   unfolding state_at
   refused_between k zero h = rw add-zero
   refused_between k (suc m) h =
@@ -153,9 +153,9 @@ module _ (s : Shape) (first : State) (calls : ℕ → ContainerSourceCall) where
   pub b3_past_refused :
       Fit s
       → (k m : ℕ)
-      → (outcome_at s first calls k).sent.answer ≡ Done
-      → ((i : ℕ) → suc k ≤ i → i < suc k + m → (outcome_at s first calls i).sent.answer ≡ Done → ⊥)
-      → (outcome_at s first calls (suc k + m)).sent.answer ≡ Done
+      → (outcome_at s first calls k).sent.answer ≡ Ok tt
+      → ((i : ℕ) → suc k ≤ i → i < suc k + m → (outcome_at s first calls i).sent.answer ≡ Ok tt → ⊥)
+      → (outcome_at s first calls (suc k + m)).sent.answer ≡ Ok tt
       → b3 s (container_at s first calls (suc k + m)) ≡ parity_of (container_at s first calls k)
   unfolding state_at
   b3_past_refused f k m sent h again =

@@ -1,6 +1,5 @@
 -- Bytes of the containers that a run sends, which the theorems about J1, B3 and the rest speak of.
-use Rattle.std.specs.Prelude.{◌≡◌, cond, List, [], ◌∷◌, ℕ, zero, suc, ◌+◌, ◌*◌, ◌<◌, get_or}
-use Rattle.refusals.specs.declared.Answer.TheVariants.{Done}
+use Rattle.std.specs.Prelude.{◌≡◌, cond, List, [], ◌∷◌, ℕ, zero, suc, ◌+◌, ◌*◌, ◌<◌, get_or, Ok}
 use Rattle.shape.specs.declared.Shape.{Shape}
 use Rattle.container_source.specs.declared.State.{State}
 use Rattle.container_source.specs.declared.Given.{Given}
@@ -8,7 +7,7 @@ use Rattle.container_source_theorems.specs.Run.{ContainerSourceCall, outcome_at,
 
 -- none of the first n calls is refused
 abbrev pub Unrefused : Shape → State → (ℕ → ContainerSourceCall) → ℕ → Type 0
-Unrefused s first calls n = (k : ℕ) → k < n → (outcome_at s first calls k).sent.answer ≡ Done
+Unrefused s first calls n = (k : ℕ) → k < n → (outcome_at s first calls k).sent.answer ≡ Ok tt
 
 -- J1 of n containers in turn, from container k on
 unfoldable pub j1s : Shape → State → (ℕ → ContainerSourceCall) → ℕ → ℕ → List ℕ

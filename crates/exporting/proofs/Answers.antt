@@ -13,19 +13,16 @@ use Rattle.refusals.proofs.Wrong.{Numbered}
 use Rattle.records.specs.Record.{old_kind, most_records}
 use Rattle.records.specs.Refusals.{catalogue_says}
 use Rattle.records.specs.Faults.{first_fault}
-use Rattle.records.proofs.Fields.{old_serves}
+use Rattle.std.specs.Prelude.{Result, Ok, Err}
 use Rattle.records.specs.declared.Kind.{Kind}
 use Rattle.records.specs.declared.Refusal.{Refusal}
 use Rattle.catalogue.specs.Catalogue.{faults, records, catalogue_answer, check_of, Checks}
-use Rattle.catalogue.specs.declared.Checked.TheVariants.{Good, Refused}
 use Rattle.catalogue.specs.declared.Counted.{Counted}
 use Rattle.catalogue.proofs.Answers.{good_length, checked_is, file_numbered}
 use Rattle.record_line.specs.RecordLine.{lines_from}
 use Rattle.record_line.specs.Inner.{characters_most, line_most}
 use Rattle.record_line.specs.declared.Form.{Form}
 use Rattle.exporting.specs.Export.{sheet_form, text_of, export_of, export_answer, exported_says, Exports}
-use Rattle.exporting.specs.declared.Exported.{Exported}
-use Rattle.exporting.specs.declared.Exported.TheVariants.{Text, Not}
 
 -- a line has at most 46 bytes
 line_most_lem : (form : Form) (n : ℕ) → form ≡ sheet_form → line_most form * n ≡ 46 * n
@@ -38,7 +35,7 @@ unfolding exported_says export_answer catalogue_answer first_fault said_by
 exported_said m n [] _ = refl
 exported_said m n (f ∷ l) (Numbered.more e _) = e
 
-exports : (s b a : List ℕ) (r : Exported) → length (export_of s) ≤ 23552 → r ≡ export_answer (length (export_of s)) (check_of old_kind s) → a ≡ put 0 (export_of s) b → Exports s b a r
+exports : (s b a : List ℕ) (r : Result ℕ Refusal) → length (export_of s) ≤ 23552 → r ≡ export_answer (length (export_of s)) (check_of old_kind s) → a ≡ put 0 (export_of s) b → Exports s b a r
 unfolding check_of
 exports s b a r h e f = record {
   number_is = ap exported_says e ∙ exported_said (length (export_of s)) (records old_kind s) (faults old_kind s) (file_numbered old_kind s);
@@ -52,9 +49,9 @@ module _ (s b : List ℕ) (c : Counted) (is_c : Checks old_kind s c) where
   checked_so : c.checked ≡ check_of old_kind s
   checked_so = checked_is old_kind s c is_c
 
-  module _ (n : ℕ) (e : c.checked ≡ Good n) (form : Form) (is-form : form ≡ sheet_form) (kind : Kind) (is-kind : kind ≡ old_kind) where
+  module _ (n : ℕ) (e : c.checked ≡ Ok n) (form : Form) (is-form : form ≡ sheet_form) (kind : Kind) (is-kind : kind ≡ old_kind) where
     whole : (length s ≡ old_kind.length * n) × (n ≤ most_records)
-    whole = good_length old_kind s n (old_serves old_kind refl) (sym checked_so ∙ e)
+    whole = good_length old_kind s n (sym checked_so ∙ e)
 
     pub good_records : length s ≡ kind.length * n
     good_records = rw is-kind whole.0
@@ -66,29 +63,29 @@ module _ (s b : List ℕ) (c : Counted) (is_c : Checks old_kind s c) where
     unfolding export_of text_of
     text_is = rw (is-form, is-kind, ← checked_so, e)
 
-    pub good_exported : (a : List ℕ) (k : ℕ) → length a ≡ length b → length b ≡ 23552 → Within (line_most form * n) 0 (lines_from form kind s 0 n) b a k → Exports s b a (Text k)
+    pub good_exported : (a : List ℕ) (k : ℕ) → length a ≡ length b → length b ≡ 23552 → Within (line_most form * n) 0 (lines_from form kind s 0 n) b a k → Exports s b a (Ok k)
     unfolding export_answer
     good_exported a k q l w =
         let long : k ≡ length (export_of s) = w.written.next_is ∙ omega (arith, ap length text_is) in
         let now_is : a ≡ put 0 (export_of s) b = w.written.now_is ∙ ap (λ (t : List ℕ). put 0 t b) text_is in
-        exports s b a (Text k) (omega (arith, ap length now_is, length_piece b (export_of s) 0)) (rw (← checked_so, e, ← long)) now_is
+        exports s b a (Ok k) (omega (arith, ap length now_is, length_piece b (export_of s) 0)) (rw (← checked_so, e, ← long)) now_is
 
-  pub refused_exported : (x : Refusal) → c.checked ≡ Refused x → Exports s b b (Not x)
+  pub refused_exported : (x : Refusal) → c.checked ≡ Err x → Exports s b b (Err x)
   unfolding export_answer export_of text_of
   refused_exported x e =
       let none : export_of s ≡ [] = rw (← checked_so, e) in
-      exports s b b (Not x) (omega (arith, ap length none)) (rw (← checked_so, e)) (rw none (sym (put_none b 0)))
+      exports s b b (Err x) (omega (arith, ap length none)) (rw (← checked_so, e)) (rw none (sym (put_none b 0)))
 
 -- ---- what a caller of the export rests on: the text of a good answer lies in the buffer
 
-module _ (s b a : List ℕ) (r : Exported) (n : ℕ) (d : Exports s b a r) (e : r ≡ Text n) where
+module _ (s b a : List ℕ) (r : Result ℕ Refusal) (n : ℕ) (d : Exports s b a r) (e : r ≡ Ok n) where
   text_long : n ≡ length (export_of s)
   unfolding export_answer export_of text_of
   text_long = go (check_of old_kind s) (sym e ∙ d.answer_is)
     where
-      go : (c : Rattle.catalogue.specs.declared.Checked.Checked) → Text n ≡ export_answer (length (text_of s (check_of old_kind s))) c → n ≡ length (text_of s (check_of old_kind s))
-      go (Good k) f = cc
-      go (Refused x) f = let z : ◌≡◌ {A = ℕ} 0 1 = cc in absurd (omega arith)
+      go : (c : Result ℕ Refusal) → Ok n ≡ export_answer (length (text_of s (check_of old_kind s))) c → n ≡ length (text_of s (check_of old_kind s))
+      go (Ok k) f = cc
+      go (Err x) f = let z : ◌≡◌ {A = ℕ} 0 1 = cc in absurd (omega arith)
 
   pub text_there : n ≤ length a
   text_there = omega (arith, text_long, ap length d.now_is, length_piece b (export_of s) 0)

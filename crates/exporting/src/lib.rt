@@ -4,16 +4,8 @@
 ghost use Rattle.std.specs.Prelude.{◌≡◌};
 ghost use Rattle.exporting.specs.Export.{sheet_form, Exports};
 
-use catalogue::Checked;
 use record_line::Form;
-use records::Refusal;
-
-// The answer: a text of so many bytes, or the refusal.
-#[derive(Clone, Copy)]
-pub enum Exported {
-    Text(usize),
-    Not(Refusal),
-}
+use records::{Kind, Refusal};
 
 // The form of its lines: commas between the fields, the trace in double quotes.
 fn form() -> Form
@@ -27,17 +19,11 @@ fn form() -> Form
     }
 }
 
-// The export, written from the start of the buffer on. The buffer has room for 512 lines of 46, whatever bytes a record holds; the records of a
+// The export, written from the start of the buffer on; the answer is the text's length. The buffer has room for 512 lines of 46, whatever bytes a record holds; the records of a
 // good catalogue make lines of at most 44. A refused catalogue leaves it as it was.
-pub fn export(s: &[u8], out: &mut [u8; 23552]) -> Exported
+pub fn export(s: &[u8], out: &mut [u8; 23552]) -> Result<usize, Refusal>
     ensures { Exports s.now out.old out.new result }
 {
-    let checked = catalogue::check(s).checked;
-    match checked {
-        Checked::Good(n) => {
-            let e = record_line::lines(form(), records::old_kind(), out, 0, s, n);
-            Exported::Text(e)
-        }
-        Checked::Refused(x) => Exported::Not(x),
-    }
+    let n = catalogue::check(s).checked?;
+    Ok(record_line::lines(form(), Kind::old(), out, 0, s, n))
 }

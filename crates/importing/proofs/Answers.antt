@@ -19,9 +19,8 @@ use Rattle.records.specs.Refusals.{catalogue_says}
 use Rattle.records.specs.Faults.{first_fault}
 use Rattle.records.specs.declared.Refusal as records-refusal
 use Rattle.records.proofs.Numbers.{behind}
-use Rattle.records.proofs.Fields.{old_serves}
+use Rattle.std.specs.Prelude.{Result, Ok, Err, ⊤}
 use Rattle.catalogue.specs.Catalogue.{faults, records, catalogue_answer, check_of, Checks}
-use Rattle.catalogue.specs.declared.Checked.TheVariants as checked
 use Rattle.catalogue.specs.declared.Counted.{Counted}
 use Rattle.catalogue.proofs.Answers.{good_length, checked_is, file_numbered}
 use Rattle.sheet_line.specs.Line.{line_faults}
@@ -32,10 +31,6 @@ use Rattle.importing.specs.Inner.{Sounds, checked_as, Made}
 use Rattle.sheet_refusals.specs.Refusals.{import_number, import_places, import_says}
 use Rattle.sheet_refusals.specs.declared.Refusal.{Refusal}
 use Rattle.sheet_refusals.specs.declared.Refusal.TheVariants.{TooMany, Line, Catalogue}
-use Rattle.importing.specs.declared.First.{First}
-use Rattle.importing.specs.declared.First.TheVariants.{Of, Nothing}
-use Rattle.importing.specs.declared.Imported.{Imported}
-use Rattle.importing.specs.declared.Imported.TheVariants.{Good, Refused}
 use Rattle.importing.proofs.Faulty.{first_both, first_none}
 use Rattle.importing.proofs.Making.{records_length}
 
@@ -60,11 +55,11 @@ module _ (s z m : List ℕ) (n : ℕ) (w : Written 0 (result_of s) z m n) where
     checked_so : c.checked ≡ check_of old_kind (result_of s)
     checked_so = checked_is old_kind (take n m) c is_c ∙ ap (check_of old_kind) made_is
 
-    pub made_good : (k : ℕ) (a : List ℕ) → c.checked ≡ checked.Good k → a ≡ put 0 (take n m) b → Made (result_of s) b a (Good k)
+    pub made_good : (k : ℕ) (a : List ℕ) → c.checked ≡ Ok k → a ≡ put 0 (take n m) b → Made (result_of s) b a (Ok k)
     unfolding checked_as left_by
     made_good k a e f = record { answer_is = rw (← checked_so, e); now_is = rw made_is at f }
 
-    pub made_refused : (x : records-refusal.Refusal) → c.checked ≡ checked.Refused x → Made (result_of s) b b (Refused (Catalogue x))
+    pub made_refused : (x : records-refusal.Refusal) → c.checked ≡ Err x → Made (result_of s) b b (Err (Catalogue x))
     unfolding checked_as left_by
     made_refused x e = record { answer_is = rw (← checked_so, e); now_is = refl }
 
@@ -76,7 +71,7 @@ copy_room s z m b n w h v l = omega (arith, ap length (made_is s z m n v), recor
 
 -- each row of the text's table has its case's number, and names its places
 lines_numbered : (k : ℕ) (ls : List Cut) → Numbered import_says (faults_from k ls)
-unfolding faults_from import_says import_number import_places line_says behind
+unfolding faults_from import_says line_says behind
 lines_numbered k [] = Numbered.none
 lines_numbered k (l ∷ ls) =
     numbered_both import_says _ _
@@ -84,11 +79,11 @@ lines_numbered k (l ∷ ls) =
     (lines_numbered (k + 1) ls)
 
 result_numbered : (s : List ℕ) → Numbered import_says (rows_at [] Catalogue (faults old_kind s))
-unfolding import_says import_number import_places catalogue_says
+unfolding import_says catalogue_says
 result_numbered s = numbered_rows catalogue_says import_says [] Catalogue (λ x n ps e. e) (faults old_kind s) (file_numbered old_kind s)
 
 import_numbered : (s : List ℕ) → Numbered import_says (import_faults s)
-unfolding import_faults import_says import_number import_places
+unfolding import_faults import_says
 import_numbered s =
     let rest = numbered_both import_says _ _ (lines_numbered 0 (lines_of s)) (result_numbered (result_of s)) in
     search numbered_row
@@ -98,7 +93,7 @@ unfolding imported_says import_answer first_of said_by
 imported_said n [] m = refl
 imported_said n (f ∷ l) (Numbered.more e m) = e
 
-imports : (s b a : List ℕ) (r : Imported) → r ≡ import_of s → a ≡ left_by r (result_of s) b → Imports s b a r
+imports : (s b a : List ℕ) (r : Result ℕ Refusal) → r ≡ import_of s → a ≡ left_by r (result_of s) b → Imports s b a r
 unfolding import_of
 imports s b a r e f = record {
   number_is = ap imported_says e ∙ imported_said (records old_kind (result_of s)) (import_faults s) (import_numbered s);
@@ -115,38 +110,38 @@ result_answer n [] = refl
 result_answer n (f ∷ fs) = refl
 
 module _ (s b : List ℕ) (n : ℕ) (is-n : n ≡ length (lines_of s)) where
-  many_is : most_lines < n → Refused TooMany ≡ import_of s
+  many_is : most_lines < n → Err TooMany ≡ import_of s
   unfolding import_of import_faults due first_of import_answer
   many_is h = rw (← is-n, lt-ltb most_lines n h)
 
-  pub import_many : most_lines < n → Imports s b b (Refused TooMany)
+  pub import_many : most_lines < n → Imports s b b (Err TooMany)
   unfolding left_by
-  import_many h = imports s b b (Refused TooMany) (many_is h) refl
+  import_many h = imports s b b (Err TooMany) (many_is h) refl
 
   module _ (h : n ≤ most_lines) where
     pub few : length (lines_of s) ≤ most_lines
     few = omega arith
 
-    module _ (f : First) (is_f : f ≡ first_of (faults_from 0 (lines_of s))) where
-      fault_is : (x : Refusal) → f ≡ Of x → Refused x ≡ import_of s
+    module _ (f : Result ⊤ Refusal) (is_f : f ≡ first_of (faults_from 0 (lines_of s))) where
+      fault_is : (x : Refusal) → f ≡ Err x → Err x ≡ import_of s
       unfolding import_of import_faults due import_answer
       fault_is x e = rw (← is-n, le-ltb most_lines n h, first_both (faults_from 0 (lines_of s)) (rows_at [] Catalogue (faults old_kind (result_of s))) x (sym is_f ∙ e))
 
-      pub import_fault : (x : Refusal) → f ≡ Of x → Imports s b b (Refused x)
+      pub import_fault : (x : Refusal) → f ≡ Err x → Imports s b b (Err x)
       unfolding left_by
-      import_fault x e = imports s b b (Refused x) (fault_is x e) refl
+      import_fault x e = imports s b b (Err x) (fault_is x e) refl
 
-      made_answer : f ≡ Nothing → checked_as (check_of old_kind (result_of s)) ≡ import_of s
+      made_answer : f ≡ Ok tt → checked_as (check_of old_kind (result_of s)) ≡ import_of s
       unfolding import_of import_faults due check_of
       made_answer e = rw (← is-n, le-ltb most_lines n h, first_none (faults_from 0 (lines_of s)) (sym is_f ∙ e)) (result_answer (records old_kind (result_of s)) (faults old_kind (result_of s)))
 
-      pub import_made : (a : List ℕ) (r : Imported) → f ≡ Nothing → Made (result_of s) b a r → Imports s b a r
+      pub import_made : (a : List ℕ) (r : Result ℕ Refusal) → f ≡ Ok tt → Made (result_of s) b a r → Imports s b a r
       import_made a r e v = imports s b a r (v.answer_is ∙ made_answer e) v.now_is
 
 -- ---- what a caller of the import rests on
 
 -- a good answer: nothing is wrong with the text
-pub good_none : (n m : ℕ) (l : List (Fault Refusal)) → import_answer m (first_of l) ≡ Good n → (l ≡ []) × (m ≡ n)
+pub good_none : (n m : ℕ) (l : List (Fault Refusal)) → import_answer m (first_of l) ≡ Ok n → (l ≡ []) × (m ≡ n)
 unfolding import_answer first_of
 good_none n m [] e = (refl, cc)
 good_none n m (f ∷ l) e = let z : ◌≡◌ {A = ℕ} 0 1 = cc in absurd (omega arith)
@@ -155,9 +150,9 @@ good_none n m (f ∷ l) e = let z : ◌≡◌ {A = ℕ} 0 1 = cc in absurd (omeg
 pub record Fine (s : List ℕ) (n : ℕ) : Type 0 where
   pub few_lines : length (lines_of s) ≤ most_lines
   pub lines_fine : faults_from 0 (lines_of s) ≡ []
-  pub catalogue_good : check_of old_kind (result_of s) ≡ checked.Good n
+  pub catalogue_good : check_of old_kind (result_of s) ≡ Ok n
 
-pub good_fine : (s : List ℕ) (n : ℕ) → import_of s ≡ Good n → Fine s n
+pub good_fine : (s : List ℕ) (n : ℕ) → import_of s ≡ Ok n → Fine s n
 unfolding import_of import_faults check_of first_fault catalogue_answer
 good_fine s n e =
     let g = good_none n (records old_kind (result_of s)) (import_faults s) e in
@@ -170,12 +165,12 @@ good_fine s n e =
     }
 
 -- the records of a good answer lie in the buffer
-module _ (s b a : List ℕ) (r : Imported) (n : ℕ) (d : Imports s b a r) (e : r ≡ Good n) where
-  good_is : import_of s ≡ Good n
+module _ (s b a : List ℕ) (r : Result ℕ Refusal) (n : ℕ) (d : Imports s b a r) (e : r ≡ Ok n) where
+  good_is : import_of s ≡ Ok n
   good_is = sym d.answer_is ∙ e
 
   long : (length (result_of s) ≡ old_kind.length * n) × (n ≤ 512)
-  long = good_length old_kind (result_of s) n (old_serves old_kind refl) (good_fine s n good_is).catalogue_good
+  long = good_length old_kind (result_of s) n (good_fine s n good_is).catalogue_good
 
   pub good_fits : 21 * n ≤ 10752
   good_fits = omega (arith, long.1)

@@ -9,25 +9,22 @@ use Rattle.refusals.specs.Refusals.{Fault, rows_at}
 use Rattle.refusals.proofs.Joined.{joined_none, rows_none}
 use Rattle.sheet_line.specs.Line.{line_faults, line_judged}
 use Rattle.sheet_line.specs.declared.LineFault.{LineFault}
-use Rattle.sheet_line.specs.declared.LineAnswer.{LineAnswer}
-use Rattle.sheet_line.specs.declared.LineAnswer.TheVariants.{Passes, Wrong}
+use Rattle.std.specs.Prelude.{Result, Ok, Err, ⊤}
 use Rattle.sheet_line.proofs.Ways.{sound}
 use Rattle.importing.specs.Import.{Cut, lines_of, faults_from, first_of}
 use Rattle.importing.specs.Inner.{Sounds, none, more}
 use Rattle.sheet_refusals.specs.declared.Refusal.{Refusal}
 use Rattle.sheet_refusals.specs.declared.Refusal.TheVariants.{Line}
-use Rattle.importing.specs.declared.First.{First}
-use Rattle.importing.specs.declared.First.TheVariants.{Of, Nothing}
 use Rattle.importing.proofs.Walk.{line_at, next_of, lines_at, lines_over}
 
 -- ---- the first of two tables
 
-pub first_both : (xs ys : List (Fault Refusal)) (x : Refusal) → first_of xs ≡ Of x → first_of (xs ++ ys) ≡ Of x
+pub first_both : (xs ys : List (Fault Refusal)) (x : Refusal) → first_of xs ≡ Err x → first_of (xs ++ ys) ≡ Err x
 unfolding first_of
 first_both [] ys x e = let z : ◌≡◌ {A = ℕ} 0 1 = cc in absurd (omega arith)
 first_both (f ∷ xs) ys x e = e
 
-pub first_none : (xs : List (Fault Refusal)) → first_of xs ≡ Nothing → xs ≡ []
+pub first_none : (xs : List (Fault Refusal)) → first_of xs ≡ Ok tt → xs ≡ []
 unfolding first_of
 first_none [] e = refl
 first_none (x ∷ xs) e = let z : ◌≡◌ {A = ℕ} 0 1 = cc in absurd (omega arith)
@@ -37,12 +34,12 @@ first_none (x ∷ xs) e = let z : ◌≡◌ {A = ℕ} 0 1 = cc in absurd (omega 
 abbrev line_rows : ℕ → List (Fault LineFault) → List (Fault Refusal)
 line_rows place fs = rows_at (place ∷ []) (λ (x : LineFault). Line x place) fs
 
-pub first_hit : (fs : List (Fault LineFault)) (ys : List (Fault Refusal)) (place : ℕ) (x : LineFault) → line_judged fs ≡ Wrong x → first_of (line_rows place fs ++ ys) ≡ Of (Line x place)
+pub first_hit : (fs : List (Fault LineFault)) (ys : List (Fault Refusal)) (place : ℕ) (x : LineFault) → line_judged fs ≡ Err x → first_of (line_rows place fs ++ ys) ≡ Err (Line x place)
 unfolding first_of line_judged rows_at
 first_hit [] ys place x e = let z : ◌≡◌ {A = ℕ} 0 1 = cc in absurd (omega arith)
 first_hit (f ∷ fs) ys place x e = let q : f.why ≡ x = cc in rw q
 
-pub first_rest : (fs : List (Fault LineFault)) (ys : List (Fault Refusal)) (place : ℕ) → line_judged fs ≡ Passes → first_of (line_rows place fs ++ ys) ≡ first_of ys
+pub first_rest : (fs : List (Fault LineFault)) (ys : List (Fault Refusal)) (place : ℕ) → line_judged fs ≡ Ok tt → first_of (line_rows place fs ++ ys) ≡ first_of ys
 unfolding first_of line_judged rows_at
 first_rest [] ys place e = refl
 first_rest (f ∷ fs) ys place e = let z : ◌≡◌ {A = ℕ} 0 1 = cc in absurd (omega arith)
@@ -50,19 +47,19 @@ first_rest (f ∷ fs) ys place e = let z : ◌≡◌ {A = ℕ} 0 1 = cc in absur
 -- ---- the loop
 
 -- l is the line at the place, and f what is wrong first with it
-module _ (s l : List ℕ) (at k next : ℕ) (f : LineAnswer) (p : First) (h : at < length s) (is-next : next ≡ next_of s at) (is-l : l ≡ line_at s at)
+module _ (s l : List ℕ) (at k next : ℕ) (f : Result ⊤ LineFault) (p : Result ⊤ Refusal) (h : at < length s) (is-next : next ≡ next_of s at) (is-l : l ≡ line_at s at)
     (is_f : f ≡ line_judged (line_faults (leb next (length s)) l)) (e : first_of (faults_from k (lines_of (drop at s))) ≡ p) where
   here : first_of (line_rows (k + 1) (line_faults (leb next (length s)) l) ++ faults_from (k + 1) (lines_of (drop next s))) ≡ p
   unfolding faults_from
   here = rw (is-l, is-next) (rw (lines_at s at h) at e)
 
-  pub fault_hit : (x : LineFault) → f ≡ Wrong x → Of (Line x (k + 1)) ≡ p
+  pub fault_hit : (x : LineFault) → f ≡ Err x → Err (Line x (k + 1)) ≡ p
   fault_hit x g = sym (first_hit (line_faults (leb next (length s)) l) (faults_from (k + 1) (lines_of (drop next s))) (k + 1) x (sym is_f ∙ g)) ∙ here
 
-  pub fault_turn : f ≡ Passes → first_of (faults_from (k + 1) (lines_of (drop next s))) ≡ p
+  pub fault_turn : f ≡ Ok tt → first_of (faults_from (k + 1) (lines_of (drop next s))) ≡ p
   fault_turn g = sym (first_rest (line_faults (leb next (length s)) l) (faults_from (k + 1) (lines_of (drop next s))) (k + 1) (sym is_f ∙ g)) ∙ here
 
-pub fault_end : (s : List ℕ) (at k : ℕ) (p : First) → length s ≤ at → first_of (faults_from k (lines_of (drop at s))) ≡ p → Nothing ≡ p
+pub fault_end : (s : List ℕ) (at k : ℕ) (p : Result ⊤ Refusal) → length s ≤ at → first_of (faults_from k (lines_of (drop at s))) ≡ p → Ok tt ≡ p
 unfolding faults_from first_of
 fault_end s at k p h e = rw (lines_over s at h) at e
 
@@ -75,5 +72,5 @@ sounds k (l ∷ ls) e =
     let p = joined_none (line_rows (k + 1) (line_faults l.ended l.bytes)) (faults_from (k + 1) ls) e in
     more (sound l.ended l.bytes (rows_none ((k + 1) ∷ []) (λ (x : LineFault). Line x (k + 1)) (line_faults l.ended l.bytes) p.0)) (sounds (k + 1) ls p.1)
 
-pub sounds_of : (s : List ℕ) (f : First) → f ≡ first_of (faults_from 0 (lines_of s)) → f ≡ Nothing → Sounds (lines_of s)
+pub sounds_of : (s : List ℕ) (f : Result ⊤ Refusal) → f ≡ first_of (faults_from 0 (lines_of s)) → f ≡ Ok tt → Sounds (lines_of s)
 sounds_of s f is_f e = sounds 0 (lines_of s) (first_none (faults_from 0 (lines_of s)) (sym is_f ∙ e))

@@ -1,6 +1,6 @@
 -- The import of ask 1 of 02: the lines of a text, all that is wrong with them in the order in which it is refused, the records that they say, and the answer.
 -- "18 first, then line by line 15, 16, 17, and last 01's catalogue order over the result."
-use Rattle.std.specs.Prelude.{ℕ, ◌+◌, ◌≡◌, Bool, true, false, cond, List, [], ◌∷◌, ◌++◌, eqb, ltb, length}
+use Rattle.std.specs.Prelude.{ℕ, ◌+◌, ◌≡◌, Bool, true, false, cond, List, [], ◌∷◌, ◌++◌, eqb, ltb, length, Result, Ok, Err, ⊤}
 use Rattle.copier.specs.Put.{put}
 use Rattle.refusals.specs.Refusals.{Fault, given_at, rows_at, said_by}
 use Rattle.records.specs.Record.{old_kind}
@@ -10,10 +10,6 @@ use Rattle.sheet_line.specs.declared.LineFault.{LineFault}
 use Rattle.sheet_refusals.specs.Refusals.{import_says}
 use Rattle.sheet_refusals.specs.declared.Refusal.{Refusal}
 use Rattle.sheet_refusals.specs.declared.Refusal.TheVariants.{TooMany, Line, Catalogue}
-use Rattle.importing.specs.declared.First.{First}
-use Rattle.importing.specs.declared.First.TheVariants.{Of, Nothing}
-use Rattle.importing.specs.declared.Imported.{Imported}
-use Rattle.importing.specs.declared.Imported.TheVariants.{Good, Refused}
 
 -- ---- lines
 
@@ -70,32 +66,32 @@ import_faults s =
 -- ---- the answer
 
 -- the first of what is wrong
-unfoldable pub first_of : List (Fault Refusal) → First
-first_of [] = Nothing
-first_of (f ∷ fs) = Of f.why
+unfoldable pub first_of : List (Fault Refusal) → Result ⊤ Refusal
+first_of [] = Ok tt
+first_of (f ∷ fs) = Err f.why
 
 -- a good catalogue of so many records where nothing is wrong
-unfoldable pub import_answer : ℕ → First → Imported
-import_answer n Nothing = Good n
-import_answer n (Of x) = Refused x
+unfoldable pub import_answer : ℕ → Result ⊤ Refusal → Result ℕ Refusal
+import_answer n (Ok tt) = Ok n
+import_answer n (Err x) = Err x
 
-unfoldable pub import_of : List ℕ → Imported
+unfoldable pub import_of : List ℕ → Result ℕ Refusal
 import_of s = import_answer (records old_kind (result_of s)) (first_of (import_faults s))
 
 -- what the lent buffer holds: the catalogue at its start; what was refused leaves it as it was
-unfoldable pub left_by : Imported → List ℕ → List ℕ → List ℕ
-left_by (Good n) result before = put 0 result before
-left_by (Refused x) result before = before
+unfoldable pub left_by : Result ℕ Refusal → List ℕ → List ℕ → List ℕ
+left_by (Ok n) result before = put 0 result before
+left_by (Err x) result before = before
 
 -- what an answer says: 0 and how many records, or the refusal's number and its places
-unfoldable pub imported_says : Imported → List ℕ
-imported_says (Good n) = 0 ∷ n ∷ []
-imported_says (Refused x) = import_says x
+unfoldable pub imported_says : Result ℕ Refusal → List ℕ
+imported_says (Ok n) = 0 ∷ n ∷ []
+imported_says (Err x) = import_says x
 
 -- ---- the promise
 
 -- the answer says what the table says, 0 with the records where nothing is wrong; it is the import's; and the buffer holds what it leaves
-pub record Imports (s before after : List ℕ) (r : Imported) : Type 0 where
+pub record Imports (s before after : List ℕ) (r : Result ℕ Refusal) : Type 0 where
   pub number_is : imported_says r ≡ said_by (0 ∷ records old_kind (result_of s) ∷ []) (import_faults s)
   pub answer_is : r ≡ import_of s
   pub now_is : after ≡ left_by (import_of s) (result_of s) before

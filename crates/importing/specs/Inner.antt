@@ -1,14 +1,12 @@
 -- What the functions inside the import ask and answer. No rule of 02 stands here, and the promise of `importing::import` does not cite it.
-use Rattle.std.specs.Prelude.{ℕ, ◌≡◌, List, [], ◌∷◌}
+use Rattle.std.specs.Prelude.{ℕ, ◌≡◌, List, [], ◌∷◌, Result, Ok, Err}
 use Rattle.records.specs.Record.{old_kind}
 use Rattle.catalogue.specs.Catalogue.{check_of}
-use Rattle.catalogue.specs.declared.Checked.{Checked}
-use Rattle.catalogue.specs.declared.Checked.TheVariants as checked
+use Rattle.records.specs.declared.Refusal as of-records
 use Rattle.sheet_line.specs.Inner.{Sound}
 use Rattle.importing.specs.Import.{Cut, left_by}
+use Rattle.sheet_refusals.specs.declared.Refusal.{Refusal}
 use Rattle.sheet_refusals.specs.declared.Refusal.TheVariants.{Catalogue}
-use Rattle.importing.specs.declared.Imported.{Imported}
-use Rattle.importing.specs.declared.Imported.TheVariants.{Good, Refused}
 
 -- nothing is wrong with the lines
 pub data Sounds : List Cut → Type 0 where
@@ -16,11 +14,11 @@ pub data Sounds : List Cut → Type 0 where
   more : {l : Cut} {ls : List Cut} → Sound l.bytes → Sounds ls → Sounds (l ∷ ls)
 
 -- the answer of the catalogue's check, as the import's
-unfoldable pub checked_as : Checked → Imported
-checked_as (checked.Good n) = Good n
-checked_as (checked.Refused x) = Refused (Catalogue x)
+unfoldable pub checked_as : Result ℕ of-records.Refusal → Result ℕ Refusal
+checked_as (Ok n) = Ok n
+checked_as (Err x) = Err (Catalogue x)
 
 -- what is answered and left of the result of lines with which nothing is wrong
-pub record Made (result before after : List ℕ) (r : Imported) : Type 0 where
+pub record Made (result before after : List ℕ) (r : Result ℕ Refusal) : Type 0 where
   pub answer_is : r ≡ checked_as (check_of old_kind result)
   pub now_is : after ≡ left_by r result before

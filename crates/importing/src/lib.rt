@@ -8,23 +8,7 @@ ghost use Rattle.split.specs.Split.{up_to};
 ghost use Rattle.importing.specs.Import.{lf, lines_of, most_lines, faults_from, first_of, result_of, Imports};
 ghost use Rattle.importing.specs.Inner.{Sounds, Made};
 
-use catalogue::Checked;
-use sheet_line::LineAnswer;
 use sheet_refusals::Refusal;
-
-// The first refusal that is due, if any is.
-#[derive(Clone, Copy)]
-pub enum First {
-    Of(Refusal),
-    Nothing,
-}
-
-// The answer: a good catalogue of so many records, or the refusal.
-#[derive(Clone, Copy)]
-pub enum Imported {
-    Good(usize),
-    Refused(Refusal),
-}
 
 const LF: u8 = 0x0a;
 
@@ -60,24 +44,20 @@ fn lines(s: &[u8]) -> usize
 }
 
 // What is wrong first with its lines, line by line.
-fn first_fault(s: &[u8]) -> First
+fn first_fault(s: &[u8]) -> Result<(), Refusal>
     ensures { result ≡ first_of (faults_from 0 (lines_of s.now)) }
 {
     let mut k = 0;
     let mut at = 0;
     while at < s.len() {
         let next = behind(s, at);
-        match sheet_line::answer(line_at(s, at), next <= s.len()) {
-            LineAnswer::Wrong(x) => {
-                return First::Of(Refusal::Line(x, k + 1));
-            }
-            LineAnswer::Passes => {
-                at = next;
-                k += 1;
-            }
+        if let Err(x) = sheet_line::answer(line_at(s, at), next <= s.len()) {
+            return Err(Refusal::Line(x, k + 1));
         }
+        at = next;
+        k += 1;
     }
-    First::Nothing
+    Ok(())
 }
 
 // The records that the lines say, where nothing is wrong with them.
@@ -95,31 +75,25 @@ fn records_of(out: &mut [u8], s: &[u8]) -> usize
 }
 
 // The catalogue that the lines say, made apart and checked, and then copied to the lent buffer where it is good.
-fn made(s: &[u8], out: &mut [u8; 10752]) -> Imported
+fn made(s: &[u8], out: &mut [u8; 10752]) -> Result<usize, Refusal>
     requires { (Sounds (lines_of s.now)) × (length (lines_of s.now) ≤ most_lines) }
     ensures { Made (result_of s.now) out.old out.new result }
 {
     let mut b = [0u8; 10752];
     let n = records_of(&mut b, s);
-    let checked = catalogue::check(&b[..n]).checked;
-    match checked {
-        Checked::Good(k) => {
-            copier::copy_at(&b[..n], out, 0);
-            Imported::Good(k)
-        }
-        Checked::Refused(x) => Imported::Refused(Refusal::Catalogue(x)),
-    }
+    let k = catalogue::check(&b[..n]).checked?;
+    copier::copy_at(&b[..n], out, 0);
+    Ok(k)
 }
 
-// The import of a text into a lent catalogue, from its start on; the rest of the buffer keeps its bytes. What is refused leaves it as it was.
-pub fn import(s: &[u8], out: &mut [u8; 10752]) -> Imported
+// The import of a text into a lent catalogue, from its start on; the rest of the buffer keeps its bytes. The answer is how many records the catalogue has. What is refused
+// leaves the buffer as it was.
+pub fn import(s: &[u8], out: &mut [u8; 10752]) -> Result<usize, Refusal>
     ensures { Imports s.now out.old out.new result }
 {
     if MOST < lines(s) {
-        return Imported::Refused(Refusal::TooMany);
+        return Err(Refusal::TooMany);
     }
-    match first_fault(s) {
-        First::Of(x) => Imported::Refused(x),
-        First::Nothing => made(s, out),
-    }
+    first_fault(s)?;
+    made(s, out)
 }

@@ -3,7 +3,7 @@ use mathlib.Core.Path.{◌≡◌, refl}
 use mathlib.Core.List.{[], ◌∷◌, ◌++◌}
 use lib.ListN.{replicate}
 use Rattle.text.specs.Text.{decimal_in, decimal_of, hex_digit}
-use Rattle.records.specs.Record.{circuit_in, label_in, trace_in, flags_in}
+use Rattle.records.specs.Record.{circuit_in, trace_in}
 use Rattle.records.specs.Refusals.{catalogue_number, catalogue_places}
 use Rattle.records.specs.declared.Refusal.TheVariants.{Length, Repeated}
 use Rattle.record_line.specs.RecordLine.{number_and_label, characters_of, trace_and_flags, line_of}

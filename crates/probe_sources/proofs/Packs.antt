@@ -4,7 +4,8 @@ use mathlib.Core.Bool.{Bool}
 use mathlib.Core.List.{List}
 use Prim.Native.Nat.{ℕ, ◌+◌, ◌*◌, ◌%◌}
 use Rattle.refusals.specs.Refusals.{answer_number, answer_place}
-use Rattle.refusals.specs.declared.Answer.{Answer}
+use Rattle.std.specs.Prelude.{Result, ⊤}
+use Rattle.refusals.specs.declared.Refusal.{Refusal}
 use Rattle.shape.specs.declared.Shape.{Shape}
 use Rattle.shape.specs.declared.Adjustment.{Adjustment}
 use Rattle.container.specs.Payload.{payload_call, Hands}
@@ -42,7 +43,7 @@ pub unit_probed : (s : Shape) (state : between-units.State) (asked : ℕ) (a : A
     → Probes n after (probed_made (units.unit_source s state (adjustment_by asked) current next before))
 unit_probed s state asked a current next before after m n h e p = rw (← h, p) (ap probed_made e.outcome_is)
 
-pub payload_probed : (s : Shape) (container : List ℕ) (ais : Bool) (before after : List ℕ) (a : Answer) (n : ℕ)
+pub payload_probed : (s : Shape) (container : List ℕ) (ais : Bool) (before after : List ℕ) (a : Result ⊤ Refusal) (n : ℕ)
     → Hands s container ais before a after → n ≡ answer_number a
     → Probes n after (probed_handed (payload_call s container ais before))
 payload_probed s container ais before after a n e p = rw p (ap probed_handed e.outcome_is)

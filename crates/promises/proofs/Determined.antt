@@ -7,9 +7,8 @@ use Prim.Native.Nat.{ℕ}
 use borrow.Fn.Kinds.{Out, ended_of, ParamKind, ResultKind, Dens, res_t}
 use contract.Lifetimes.{Lfts}
 use denote.Triple.Clauses.{AtExit}
-use Rattle.refusals.specs.declared.Answer.{Answer}
+use Rattle.std.specs.Prelude.{Result, ⊤}
 use Rattle.settings.specs.declared.Flags.{Flags}
-use Rattle.settings.specs.declared.TraceAnswer.{TraceAnswer}
 use Rattle.text.specs.Inner.{Written}
 use Rattle.sheet_line.specs.declared.LineAnswer.{LineAnswer}
 use Rattle.importing.specs.declared.Imported.{Imported}
@@ -205,19 +204,19 @@ trace_message_same_determined κs a x y s t p q = p ∙ sym q
 pub settings_label_refused_determined : Determines {O = Bool} 0 settings-label-refused.ps settings-label-refused.r settings-label-refused-promise.Post (λ κs r e. r)
 settings_label_refused_determined κs a x y s t p q = p ∙ sym q
 
-pub settings_trace_answer_determined : Determines {O = TraceAnswer} 1 settings-trace-answer.ps settings-trace-answer.r settings-trace-answer-promise.Post (λ κs r e. r)
+pub settings_trace_answer_determined : Determines {O = Result ⊤ TraceFault} 1 settings-trace-answer.ps settings-trace-answer.r settings-trace-answer-promise.Post (λ κs r e. r)
 settings_trace_answer_determined κs a x y s t p q = p ∙ sym q
 
 pub settings_flags_of_determined : Determines {O = Flags} 0 settings-flags-of.ps settings-flags-of.r settings-flags-of-promise.Post (λ κs r e. r)
 settings_flags_of_determined κs a x y s t p q = p ∙ sym q
 
-pub settings_path_answer_determined : Determines {O = Answer} 1 settings-path-answer.ps settings-path-answer.r settings-path-answer-promise.Post (λ κs r e. r)
+pub settings_path_answer_determined : Determines {O = Result ⊤ Refusal} 1 settings-path-answer.ps settings-path-answer.r settings-path-answer-promise.Post (λ κs r e. r)
 settings_path_answer_determined κs a x y s t p q = p ∙ sym q
 
-pub settings_answer_determined : Determines {O = Answer} 0 settings-answer.ps settings-answer.r settings-answer-promise.Post (λ κs r e. r)
+pub settings_answer_determined : Determines {O = Result ⊤ Refusal} 0 settings-answer.ps settings-answer.r settings-answer-promise.Post (λ κs r e. r)
 settings_answer_determined κs a x y s t p q = p ∙ sym q
 
-pub settings_answer_alone_determined : Determines {O = Answer} 1 settings-answer-alone.ps settings-answer-alone.r settings-answer-alone-promise.Post (λ κs r e. r)
+pub settings_answer_alone_determined : Determines {O = Result ⊤ Refusal} 1 settings-answer-alone.ps settings-answer-alone.r settings-answer-alone-promise.Post (λ κs r e. r)
 settings_answer_alone_determined κs a x y s t p q = p ∙ sym q
 
 -- ---- word

@@ -1,10 +1,10 @@
 -- What the pieces of a record's line come to, in any form.
-use mathlib.Core.Path.{◌≡◌}
+use mathlib.Core.Path.{◌≡◌, ◌∙◌}
 use mathlib.Core.Bool.{true, false}
 use mathlib.Core.List.{List, [], ◌∷◌, ◌++◌, append_assoc}
 use Prim.Native.Nat.{ℕ, ◌+◌, ◌*◌, ◌<◌, ◌≤◌}
 use native.Mathlib.Omega.{arith}
-use lib.ListN.{length, get_or}
+use lib.ListN.{length}
 use Rattle.text.specs.Text.{decimal_of, hex_of}
 use Rattle.text.specs.Inner.{Short}
 use Rattle.text.specs.declared.Writer.{Writer}
@@ -18,9 +18,8 @@ use Rattle.record_line.specs.Inner.{characters_most, line_most}
 use Rattle.record_line.specs.declared.Form.{Form}
 
 -- a circuit number, of two bytes
-pub circuit_short : (r : List ℕ) (n : ℕ) → n ≡ circuit_in r → get_or r 2 0 < 256 → get_or r 3 0 < 256 → Short 5 (circuit_in r) n
-unfolding circuit_in
-circuit_short r n e h l = record { is = e; short = length_decimal 5 n (omega arith) (omega arith) }
+pub circuit_short : (r : List ℕ) (m n : ℕ) → n ≡ m → m ≡ circuit_in r → m < 65536 → Short 5 (circuit_in r) n
+circuit_short r m n e f h = record { is = e ∙ f; short = length_decimal 5 n (omega arith) (omega arith) }
 
 -- ---- the characters, doubled or not
 

@@ -5,14 +5,14 @@ use Prim.Native.Nat.{ℕ}
 use native.Mathlib.Omega.{arith}
 use Rattle.refusals.specs.Refusals.{Fault, rows_at, answer_of}
 use Rattle.refusals.specs.declared.Refusal.{Refusal}
-use Rattle.refusals.specs.declared.Answer.TheVariants.{Done, Refused}
+use Rattle.std.specs.Prelude.{Ok, Err}
 
-pub joined_refused : (xs ys : List (Fault Refusal)) (x : Refusal) → answer_of xs ≡ Refused x → answer_of (xs ++ ys) ≡ Refused x
+pub joined_refused : (xs ys : List (Fault Refusal)) (x : Refusal) → answer_of xs ≡ Err x → answer_of (xs ++ ys) ≡ Err x
 unfolding answer_of
 joined_refused [] ys x e = let z : ◌≡◌ {A = ℕ} 0 1 = cc in absurd (omega arith)
 joined_refused (f ∷ xs) ys x e = e
 
-pub joined_done : (xs ys : List (Fault Refusal)) → answer_of xs ≡ Done → answer_of (xs ++ ys) ≡ answer_of ys
+pub joined_done : (xs ys : List (Fault Refusal)) → answer_of xs ≡ Ok tt → answer_of (xs ++ ys) ≡ answer_of ys
 unfolding answer_of
 joined_done [] ys e = refl
 joined_done (f ∷ xs) ys e = let z : ◌≡◌ {A = ℕ} 0 1 = cc in absurd (omega arith)

@@ -1,12 +1,11 @@
 -- What a trace is that passes: all its characters are 20 to 7E, and not all are 20; and what is said of any other. Assumes nothing.
 use mathlib.Core.Path.{◌≡◌, refl, sym, ◌∙◌}
-use mathlib.Core.Bool.{Bool, true, false, ◌&&◌, true≢false}
+use mathlib.Core.Bool.{Bool, true, false, true≢false}
 use mathlib.Core.List.{List, [], ◌∷◌, ◌++◌}
 use Prim.Native.Nat.{ℕ, zero, suc, ◌+◌, ◌<◌, ◌≤◌}
 use native.Mathlib.Omega.{arith}
-use lib.Dec.{eqb}
 use lib.ListN.{length, get_or}
-use borrow.Author.Tests.{ltb-false, lt-ltb, le-ltb, eqb-true, eq-eqb}
+use borrow.Author.Tests.{ltb-false, lt-ltb, le-ltb}
 use Rattle.refusals.specs.Refusals.{Fault, due, no}
 use Rattle.refusals.specs.declared.TraceFault.{TraceFault}
 use Rattle.refusals.specs.declared.TraceFault.TheVariants.{Below, Above, Spaces}
@@ -15,7 +14,8 @@ use Rattle.refusals.proofs.Joined.{joined_none}
 use Rattle.settings.specs.Settings.{below, above, all_spaces, characters_from, trace_faults, judged}
 use Rattle.settings.specs.Faults.{settings_faults}
 use Rattle.settings.specs.declared.Settings.{Settings}
-use Rattle.settings.specs.declared.TraceAnswer.TheVariants.{Wrong}
+use Rattle.std.specs.Prelude.{Err}
+use Rattle.settings.proofs.Laws.{spaces_are, are_spaces}
 use Rattle.settings.proofs.Refuses.{fine_trace}
 
 -- a character that may stand in a trace
@@ -52,24 +52,6 @@ none_from place (b ∷ bs) h =
     let first : Character b = h 0 (omega arith) in
     rw (le-ltb b 0x20 first.least, le-ltb 0x7e b first.most) (none_from (place + 1) bs (λ i l. h (suc i) (omega arith)))
 
--- ---- spaces
-
-spaces_are : (bs : List ℕ) → ((i : ℕ) → i < length bs → get_or bs i 0 ≡ 0x20) → all_spaces bs ≡ true
-unfolding all_spaces
-spaces_are [] h = refl
-spaces_are (b ∷ bs) h = rw (eq-eqb b 0x20 (h 0 (omega arith))) (spaces_are bs (λ i l. h (suc i) (omega arith)))
-
-are_spaces : (bs : List ℕ) → all_spaces bs ≡ true → (i : ℕ) → i < length bs → get_or bs i 0 ≡ 0x20
-unfolding all_spaces
-are_spaces [] h i l = absurd (omega arith)
-are_spaces (b ∷ bs) h i l = go (eqb b 0x20) refl (are_spaces bs) h i l
-  where
-    go : (t : Bool) → eqb b 0x20 ≡ t → (all_spaces bs ≡ true → (i : ℕ) → i < length bs → get_or bs i 0 ≡ 0x20) → t && all_spaces bs ≡ true
-        → (i : ℕ) → i < length (b ∷ bs) → get_or (b ∷ bs) i 0 ≡ 0x20
-    go true o rest h zero l = eqb-true b 0x20 o
-    go true o rest h (suc i) l = rest h i (omega arith)
-    go false o rest h i l = absurd (true≢false (sym h))
-
 -- ---- A TRACE PASSES EXACTLY WHERE ALL ITS CHARACTERS ARE 20 TO 7E AND NOT ALL ARE 20
 
 pub passing_good : (trace : List ℕ) → trace_faults trace ≡ [] → Good trace
@@ -104,7 +86,7 @@ pub record Earliest (trace : List ℕ) (i : ℕ) : Type 0 where
 
 -- what is wrong from it on is wrong first
 from_earliest : (i place at : ℕ) (bs : List ℕ) (rest : List (Fault TraceFault)) (t : TraceFault) → Earliest bs i → at ≡ place + i
-    → ((behind : List ℕ) → judged (characters_from at (get_or bs i 0 ∷ behind) ++ rest) ≡ Wrong t) → judged (characters_from place bs ++ rest) ≡ Wrong t
+    → ((behind : List ℕ) → judged (characters_from at (get_or bs i 0 ∷ behind) ++ rest) ≡ Err t) → judged (characters_from place bs ++ rest) ≡ Err t
 unfolding characters_from below above due
 from_earliest i place at [] rest t e q h = absurd (omega (arith, e.inside))
 from_earliest zero place at (b ∷ bs) rest t e q h = let same : at ≡ place = omega arith in rw same at (h bs)
@@ -115,17 +97,17 @@ from_earliest (suc i) place at (b ∷ bs) rest t e q h =
 
 module _ (trace : List ℕ) (i : ℕ) (e : Earliest trace i) where
   -- 5 with its place, where it is below 20
-  pub below_at : get_or trace i 0 < 0x20 → judged (trace_faults trace) ≡ Wrong (Below (i + 1))
+  pub below_at : get_or trace i 0 < 0x20 → judged (trace_faults trace) ≡ Err (Below (i + 1))
   unfolding trace_faults characters_from below due judged
   below_at l = from_earliest i 1 (i + 1) trace _ (Below (i + 1)) e (omega arith) (λ behind. rw (lt-ltb (get_or trace i 0) 0x20 l) refl)
 
   -- 20 with its place, where it is above 7E
-  pub above_at : 0x7e < get_or trace i 0 → judged (trace_faults trace) ≡ Wrong (Above (i + 1))
+  pub above_at : 0x7e < get_or trace i 0 → judged (trace_faults trace) ≡ Err (Above (i + 1))
   unfolding trace_faults characters_from below above due judged
   above_at l = from_earliest i 1 (i + 1) trace _ (Above (i + 1)) e (omega arith) (λ behind. rw (le-ltb (get_or trace i 0) 0x20 (omega arith), lt-ltb 0x7e (get_or trace i 0) l) refl)
 
 -- 21, where all are spaces
-pub spaces_at : (trace : List ℕ) → ((i : ℕ) → i < length trace → get_or trace i 0 ≡ 0x20) → judged (trace_faults trace) ≡ Wrong Spaces
+pub spaces_at : (trace : List ℕ) → ((i : ℕ) → i < length trace → get_or trace i 0 ≡ 0x20) → judged (trace_faults trace) ≡ Err Spaces
 unfolding trace_faults due judged
 spaces_at trace h =
     rw (none_from 1 trace (λ i l. record { least = omega (arith, h i l); most = omega (arith, h i l) }), spaces_are trace h) refl

@@ -7,33 +7,31 @@ use native.Mathlib.Omega.{arith}
 use lib.ListN.{length}
 use borrow.Author.Tests.{eq-eqb, ne_eqb}
 use Rattle.refusals.specs.Refusals.{Fault, due, no, no_at, given, rows_at, trace_number, trace_places, number_of, answer_number, answer_place, says, answer_of}
+use Rattle.refusals.specs.declared.Refusal.{Refusal}
 use Rattle.refusals.specs.declared.TraceFault.{TraceFault}
 use Rattle.refusals.specs.declared.TraceFault.TheVariants.{Below, Above, Spaces}
-use Rattle.refusals.specs.declared.Answer.{Answer}
-use Rattle.refusals.specs.declared.Answer.TheVariants.{Done, Refused}
+use Rattle.std.specs.Prelude.{Result, Ok, Err, ⊤}
 use Rattle.refusals.specs.declared.Refusal.TheVariants.{Label, Trace, State}
 use Rattle.refusals.proofs.Joined.{rows_none}
 use Rattle.refusals.proofs.Wrong.{due_none, number_none, Numbered, trace_says, numbered_row, numbered_last, numbered_both, numbered_rows}
 use Rattle.settings.specs.declared.Settings.{Settings}
-use Rattle.settings.specs.declared.TraceAnswer.{TraceAnswer}
-use Rattle.settings.specs.declared.TraceAnswer.TheVariants.{Passes, Wrong}
 use Rattle.settings.specs.Settings.{label_refused, below, above, all_spaces, characters_from, trace_faults, judged}
 use Rattle.settings.specs.Faults.{path_faults, settings_faults, alone_faults, settings_answer, settings_check, settings_place}
 
 -- ---- a trace's rows in a call's table
 
-rows_wrong : (fs : List (Fault TraceFault)) (t : TraceFault) → Wrong t ≡ judged fs → Refused (Trace t) ≡ answer_of (rows_at [] Trace fs)
+rows_wrong : (fs : List (Fault TraceFault)) (t : TraceFault) → Err t ≡ judged fs → Err (Trace t) ≡ answer_of (rows_at [] Trace fs)
 unfolding judged rows_at answer_of
 rows_wrong [] t e = let z : ◌≡◌ {A = ℕ} 0 1 = cc in absurd (omega arith)
 rows_wrong (f ∷ fs) t e = let q : t ≡ f.why = cc in rw q refl
 
-rows_pass : (fs : List (Fault TraceFault)) → Passes ≡ judged fs → fs ≡ []
+rows_pass : (fs : List (Fault TraceFault)) → Ok tt ≡ judged fs → fs ≡ []
 unfolding judged
 rows_pass [] e = refl
 rows_pass (f ∷ fs) e = let z : ◌≡◌ {A = ℕ} 0 1 = cc in absurd (omega arith)
 
 -- a trace that passes has nothing wrong with it
-pub passes_none : (trace : List ℕ) → Passes ≡ judged (trace_faults trace) → trace_faults trace ≡ []
+pub passes_none : (trace : List ℕ) → Ok tt ≡ judged (trace_faults trace) → trace_faults trace ≡ []
 passes_none trace e = rows_pass (trace_faults trace) e
 
 -- ---- the numbers
@@ -54,16 +52,16 @@ trace_numbered trace = numbered_both trace_says _ _ (characters_numbered 1 trace
 
 module _ (label : ℕ) (trace : List ℕ) where
   module _ (l : Bool) (is-l : l ≡ label_refused label) where
-    pub wrong_label : l ≡ true → Refused Label ≡ answer_of (path_faults label trace)
+    pub wrong_label : l ≡ true → Err Label ≡ answer_of (path_faults label trace)
     unfolding path_faults due answer_of
     wrong_label h = rw (← is-l, h) refl
 
-    module _ (l-no : l ≡ false) (a : TraceAnswer) (is-a : a ≡ judged (trace_faults trace)) where
-      pub wrong_trace : (t : TraceFault) → a ≡ Wrong t → Refused (Trace t) ≡ answer_of (path_faults label trace)
+    module _ (l-no : l ≡ false) (a : Result ⊤ TraceFault) (is-a : a ≡ judged (trace_faults trace)) where
+      pub wrong_trace : (t : TraceFault) → a ≡ Err t → Err (Trace t) ≡ answer_of (path_faults label trace)
       unfolding path_faults due
       wrong_trace t h = rw (← is-l, l-no) (rows_wrong (trace_faults trace) t (sym h ∙ is-a))
 
-      pub nothing_wrong : a ≡ Passes → Done ≡ answer_of (path_faults label trace)
+      pub nothing_wrong : a ≡ Ok tt → Ok tt ≡ answer_of (path_faults label trace)
       unfolding path_faults due rows_at answer_of
       nothing_wrong h = rw (← is-l, l-no, passes_none trace (sym h ∙ is-a)) refl
 
@@ -74,7 +72,7 @@ module _ (label : ℕ) (trace : List ℕ) where
       (numbered_rows trace_says says [] Trace (λ x n ps e. e) (trace_faults trace) (trace_numbered trace))
 
 -- the settings' answer is that of their label and trace
-pub settings_answer_lem : (e : Settings) (r : Answer) → r ≡ answer_of (path_faults e.label e.trace) → r ≡ answer_of (settings_faults e)
+pub settings_answer_lem : (e : Settings) (r : Result ⊤ Refusal) → r ≡ answer_of (path_faults e.label e.trace) → r ≡ answer_of (settings_faults e)
 unfolding settings_faults
 settings_answer_lem e r h = h
 
@@ -89,13 +87,13 @@ trace_not_8 (Below p) h = absurd (omega arith)
 trace_not_8 (Above p) h = absurd (omega arith)
 trace_not_8 Spaces h = absurd (omega arith)
 
-path_not_8 : (l : Bool) (fs : List (Fault TraceFault)) → answer_of (given 4 Label l ++ rows_at [] Trace fs) ≡ Refused State → ⊥
+path_not_8 : (l : Bool) (fs : List (Fault TraceFault)) → answer_of (given 4 Label l ++ rows_at [] Trace fs) ≡ Err State → ⊥
 unfolding due rows_at answer_of answer_number number_of
 path_not_8 true fs h = let n : ◌≡◌ {A = ℕ} 4 8 = ap answer_number h in absurd (omega arith)
 path_not_8 false [] h = let n : ◌≡◌ {A = ℕ} 0 8 = ap answer_number h in absurd (omega arith)
 path_not_8 false (f ∷ fs) h = trace_not_8 f.why (ap answer_number h)
 
-pub settings_not_8 : (e : Settings) → answer_of (settings_faults e) ≡ Refused State → ⊥
+pub settings_not_8 : (e : Settings) → answer_of (settings_faults e) ≡ Err State → ⊥
 unfolding settings_faults path_faults
 settings_not_8 e = path_not_8 (label_refused e.label) (trace_faults e.trace)
 
@@ -121,11 +119,11 @@ module _ (label : ℕ) (characters : List ℕ) where
   unfolding settings_answer alone_faults path_faults due
   check_path h = rw (eq-eqb (length characters) 15 h) refl
 
-  pub alone_answered : (r : Answer) → r ≡ answer_of (path_faults label characters) → length characters ≡ 15 → r ≡ settings_answer label characters
+  pub alone_answered : (r : Result ⊤ Refusal) → r ≡ answer_of (path_faults label characters) → length characters ≡ 15 → r ≡ settings_answer label characters
   alone_answered r e h = rw (check_path h) e
 
   -- what is answered has the check's number, and names its place
-  module _ (a : Answer) (is-a : a ≡ settings_answer label characters) where
+  module _ (a : Result ⊤ Refusal) (is-a : a ≡ settings_answer label characters) where
     pub check_number : (n : ℕ) → n ≡ answer_number a → n ≡ settings_check label characters
     unfolding settings_check
     check_number n h = h ∙ ap answer_number is-a
@@ -135,11 +133,11 @@ module _ (label : ℕ) (characters : List ℕ) where
     check_place p h = h ∙ ap answer_place is-a
 
   module _ (long : length characters ≡ 15 → ⊥) (l : Bool) (is-l : l ≡ label_refused label) where
-    pub alone_label : l ≡ true → Refused Label ≡ settings_answer label characters
+    pub alone_label : l ≡ true → Err Label ≡ settings_answer label characters
     unfolding settings_answer alone_faults due answer_of
     alone_label h = rw (← is-l, h) refl
 
-    pub alone_length : l ≡ false → Refused (Trace (Below 0)) ≡ settings_answer label characters
+    pub alone_length : l ≡ false → Err (Trace (Below 0)) ≡ settings_answer label characters
     unfolding settings_answer alone_faults due answer_of
     alone_length h = rw (← is-l, h, ne_eqb (length characters) 15 long) refl
 

@@ -1,7 +1,6 @@
 -- What is refused of a label and a trace, and of a sink's settings: the part of 01's orders of refusal that they have in common, "4, 5", with 20 and 21 "in the place of 5".
-use Rattle.std.specs.Prelude.{ℕ, not, List, [], ◌∷◌, ◌++◌, eqb, length}
+use Rattle.std.specs.Prelude.{ℕ, not, List, [], ◌∷◌, ◌++◌, eqb, length, Result, ⊤}
 use Rattle.refusals.specs.Refusals.{Fault, given, given_at, rows_at, answer_of, answer_number, answer_place}
-use Rattle.refusals.specs.declared.Answer.{Answer}
 use Rattle.refusals.specs.declared.Refusal.{Refusal}
 use Rattle.refusals.specs.declared.Refusal.TheVariants.{Label, Trace}
 use Rattle.refusals.specs.declared.TraceFault.TheVariants.{Below}
@@ -26,7 +25,7 @@ alone_faults label characters =
     ++ rows_at [] Trace (trace_faults characters))
 
 -- what every call with them will answer, as far as they go
-unfoldable pub settings_answer : ℕ → List ℕ → Answer
+unfoldable pub settings_answer : ℕ → List ℕ → Result ⊤ Refusal
 settings_answer label characters = answer_of (alone_faults label characters)
 
 -- the number that will refuse every call with them; 0 where none will

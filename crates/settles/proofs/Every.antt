@@ -5,7 +5,7 @@ use mathlib.Core.Bool.{Bool, true, false, cond}
 use mathlib.Core.List.{List, ◌++◌}
 use Prim.Native.Nat.{ℕ, zero, suc, ◌+◌, ◌≤◌, min}
 use native.Mathlib.Omega.{arith}
-use Rattle.refusals.specs.declared.Answer.TheVariants.{Done}
+use Rattle.std.specs.Prelude.{Ok}
 use Rattle.shape.specs.Shape.{ended_by}
 use Rattle.shape.specs.declared.Shape.{Shape}
 use Rattle.unit_source.specs.Source as unit-source
@@ -27,10 +27,10 @@ total_on false total before n e = omega arith
 
 module _ (s : Shape) (r : Run) (u : Runs s r) where
   -- no call is refused
-  pub sent_all : (n : ℕ) → (sent_at s r n).made.answer ≡ Done
+  pub sent_all : (n : ℕ) → (sent_at s r n).made.answer ≡ Ok tt
   sent_all n = ap (λ (o : unit-source.MadeOutcome). o.made.answer) (sent_is s u.fit r u.set (path_at s r n) (r.ask n) (along s r u n).ready (late s r u n (path_at s r n) (along s r u n)))
 
-  pub fed_all : (n : ℕ) → (fed_at s r n).received.answer ≡ Done
+  pub fed_all : (n : ℕ) → (fed_at s r n).received.answer ≡ Ok tt
   fed_all n = fed_done s u.fit r u.set (path_at s r n) (r.ask n) (along s r u n).ready (late s r u n (path_at s r n) (along s r u n))
 
   ended_is : (n : ℕ) → (sent_at s r n).made.ended ≡ ended_by (r.ask n) (path_at s r n).source.state.offset

@@ -10,7 +10,7 @@ use lib.ListN.{length}
 use borrow.Author.Tests.{eq-eqb}
 use Rattle.laws.proofs.Tests.{by_test}
 use Rattle.settings.specs.Faults.{settings_faults}
-use Rattle.refusals.specs.declared.Answer.TheVariants.{Done}
+use Rattle.std.specs.Prelude.{Ok}
 use Rattle.refusals.specs.Refusals.{answer_of}
 use Rattle.refusals.proofs.Wrong.{outcome_by, none_done}
 use Rattle.shape.specs.Shape.{Fit, unit_length}
@@ -93,7 +93,7 @@ reached_total s calls = (calls_keep s fresh_sink calls (whole_blank 0) (omega ar
 -- ---- a call that nothing is wrong with
 
 pub call_done : (s : Shape) (state : State) (c : SinkCall) → sink_out_of_range s state ≡ false → settings_faults c.settings ≡ []
-    → length c.unit ≡ unit_length s → length c.held ≡ s.size → length c.done ≡ s.size → (sink_called s state c).received.answer ≡ Done
+    → length c.unit ≡ unit_length s → length c.held ≡ s.size → length c.done ≡ s.size → (sink_called s state c).received.answer ≡ Ok tt
 call_done s state c o fine u h d =
     let both : (not (eqb (length c.held) s.size) || not (eqb (length c.done) s.size)) ≡ false = simp (eq-eqb (length c.held) s.size h, eq-eqb (length c.done) s.size d) in
     answer_is s state c
@@ -101,7 +101,7 @@ call_done s state c o fine u h d =
     (sink_out_of_range s state) refl o (answer_of (settings_faults c.settings)) refl (none_done (settings_faults c.settings) fine) u both)
 
 -- it leaves both buffers as long as they were
-module _ (s : Shape) (f : Fit s) (state : State) (c : SinkCall) (d : (sink_called s state c).received.answer ≡ Done) where
+module _ (s : Shape) (f : Fit s) (state : State) (c : SinkCall) (d : (sink_called s state c).received.answer ≡ Ok tt) where
   abbrev a : AfterWord
   a = pointed s state.pointer c.unit
 

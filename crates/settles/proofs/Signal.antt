@@ -8,7 +8,7 @@ use native.Mathlib.Omega.{arith}
 use lib.ListN.{length}
 use Rattle.settings.specs.Faults.{settings_faults}
 use Rattle.settings.proofs.Refuses.{fine_label, fine_trace, path_fine}
-use Rattle.refusals.specs.declared.Answer.TheVariants.{Done}
+use Rattle.std.specs.Prelude.{Ok}
 use Rattle.shape.specs.Shape.{Fit}
 use Rattle.shape.specs.declared.Shape.{Shape}
 use Rattle.container_source.specs.declared.State.{State}
@@ -32,7 +32,7 @@ module _ (s : Shape) (f : Fit s) (m : Making) (label : ℕ) (e : Settings) (low 
     abbrev state : ℕ → State
     state k = state_at s m.first m.calls k
 
-    pub made_done : (k : ℕ) → (outcome_at s m.first m.calls k).sent.answer ≡ Done
+    pub made_done : (k : ℕ) → (outcome_at s m.first m.calls k).sent.answer ≡ Ok tt
     made_done k =
         let c = m.calls k in
         let g = given k in

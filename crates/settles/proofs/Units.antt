@@ -6,7 +6,7 @@ use Prim.Native.Nat.{ℕ, ◌+◌, ◌*◌, ◌≤◌}
 use lib.Dec.{ltb}
 use lib.ListN.{length, take}
 use Rattle.settings.specs.Faults.{settings_faults}
-use Rattle.refusals.specs.declared.Answer.TheVariants.{Done}
+use Rattle.std.specs.Prelude.{Ok}
 use Rattle.shape.specs.Shape.{Fit, place_of, held_count, offset_after, run_from, ended_by}
 use Rattle.shape.specs.declared.Shape.{Shape}
 use Rattle.shape.specs.declared.Adjustment.{Adjustment}
@@ -69,13 +69,13 @@ module _ (s : Shape) (f : Fit s) (r : Run) (set : Settable r) (x : Path) (a : Ad
 
   -- ---- no call is refused
 
-  pub sent_is : sent s r x a ≡ record { made = record { answer = Done; ended = ended_by a v; state = unit-source.unit_source_after s a x.source.state }; unit = unit }
+  pub sent_is : sent s r x a ≡ record { made = record { answer = Ok tt; ended = ended_by a v; state = unit-source.unit_source_after s a x.source.state }; unit = unit }
   sent_is = spaced.call_done s f r.box x.source a h.source_fine late
 
   unit_is : (sent s r x a).unit ≡ unit
   unit_is = ap (λ (o : unit-source.MadeOutcome). o.unit) sent_is
 
-  pub fed_done : (fed s r x a).received.answer ≡ Done
+  pub fed_done : (fed s r x a).received.answer ≡ Ok tt
   fed_done =
       call_done s x.state (feeding s r x a) h.state_in set
       (ap length unit_is ∙ spaced.unit_long s f r.box x.source a h.source_fine) h.held_is h.done_is

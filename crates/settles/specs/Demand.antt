@@ -5,9 +5,8 @@
 --   number, up to its cap. From the 67th unit on, each container that ends is handed back as sent, byte for byte, in order, none lost or doubled, with zero parity violations
 --   and no defect."
 -- Units and containers are numbered from 0: unit n comes after n others. A row without end stands for its beginnings, so a run is of every length.
-use Rattle.std.specs.Prelude.{◌≡◌, ℕ, zero, suc, ◌+◌, ◌≤◌, ◌<◌, min, true, false, cond, List, [], ◌∷◌, ◌++◌, length, replicate}
+use Rattle.std.specs.Prelude.{◌≡◌, ℕ, zero, suc, ◌+◌, ◌≤◌, ◌<◌, min, true, false, cond, List, [], ◌∷◌, ◌++◌, length, replicate, Ok}
 use Rattle.settings.specs.Faults.{settings_faults}
-use Rattle.refusals.specs.declared.Answer.TheVariants.{Done}
 use Rattle.shape.specs.Shape.{unit_length, au4}
 use Rattle.shape.specs.declared.Shape.{Shape}
 use Rattle.shape.specs.declared.Adjustment.{Adjustment}
@@ -206,9 +205,9 @@ pub record Good (noneBefore : ℕ) (s : Shape) (m : Making) (r : Run) : Type 0 w
 -- settles within so many units, by its log
 pub record Settles (within : ℕ) (s : Shape) (r : Run) (g : Log) : Type 0 where
   -- no call is refused, of either source or of the sink
-  pub made_done : (k : ℕ) → (g.sent k).answer ≡ Done
-  pub sent_done : (n : ℕ) → (g.made n).answer ≡ Done
-  pub fed_done : (n : ℕ) → (g.received n).answer ≡ Done
+  pub made_done : (k : ℕ) → (g.sent k).answer ≡ Ok tt
+  pub sent_done : (n : ℕ) → (g.made n).answer ≡ Ok tt
+  pub fed_done : (n : ℕ) → (g.received n).answer ≡ Ok tt
   -- "At most 66 units of that run end unsettled"
   pub few : (n : ℕ) → unsettled g.received n ≤ within
   -- "and the card's own unsettled total rises by exactly their number, up to its cap"

@@ -4,7 +4,7 @@ use mathlib.Core.Bool.{false}
 use Prim.Native.Nat.{ℕ, ◌+◌, ◌*◌, ◌/◌, ◌%◌}
 use native.Mathlib.Omega.{arith}
 use borrow.Author.Tests.{ne_eqb}
-use Rattle.refusals.specs.declared.Answer.TheVariants.{Done}
+use Rattle.std.specs.Prelude.{Ok}
 use Rattle.shape.specs.Shape.{Fit}
 use Rattle.shape.specs.declared.Shape.{Shape}
 use Rattle.container_source.specs.Overhead.{j1_of, g1_of, overhead_of}
@@ -22,7 +22,7 @@ unfolding remote_of g1_of
 no_remote v = ne_eqb ((v * 16 + 0) / 8 % 2) 1 (λ e. absurd (omega arith))
 
 -- one call that is done, of a shape that fits
-module _ (s : Shape) (f : Fit s) (state : State) (c : ContainerSourceCall) (done : (container_source_called s state c).sent.answer ≡ Done) where
+module _ (s : Shape) (f : Fit s) (state : State) (c : ContainerSourceCall) (done : (container_source_called s state c).sent.answer ≡ Ok tt) where
   -- with one label, the trace expected and no remote defect
   pub sent_like :
       (sent : ℕ) (e : Settings) → c.given.label ≡ sent → c.trace ≡ e.trace → c.given.remote ≡ false

@@ -13,7 +13,7 @@ use Rattle.trace_message.specs.Message as of-check
 use Rattle.settings.proofs.Opened as settings
 use Rattle.settles_monitor.proofs.Labels.{fits_own}
 use Rattle.refusals.specs.Refusals as of-refusals
-use Rattle.refusals.specs.declared.Answer.TheVariants.{Done}
+use Rattle.std.specs.Prelude.{Ok}
 use Rattle.shape.specs.Shape as of-shape
 use Rattle.shape.specs.Shape.{au4}
 use Rattle.shape.specs.declared.Adjustment.{Adjustment}
@@ -58,7 +58,7 @@ module _ (p : ℕ) (low : p ≤ 15) where
   abbrev here : ℕ → State
   here k = record { place = (p + k) % 16; parity = 0 }
 
-  fine : (k : ℕ) → (container-source.container_source au4 (here k) (given ((p + k) % 16)) trace (replicate 2340 0) (replicate 2349 0)).sent.answer ≡ Done
+  fine : (k : ℕ) → (container-source.container_source au4 (here k) (given ((p + k) % 16)) trace (replicate 2340 0) (replicate 2349 0)).sent.answer ≡ Ok tt
   unfolding given trace settings.opened
   fine k =
       sendable_source au4 (here k) (given ((p + k) % 16)) trace (replicate 2340 0) (replicate 2349 0)

@@ -16,25 +16,25 @@ use Rattle.sheet_line.specs.Refusals.{line_number}
 use Rattle.sheet_line.specs.Inner.{Sound}
 use Rattle.sheet_line.specs.declared.LineFault.{LineFault}
 use Rattle.sheet_line.specs.declared.LineFault.TheVariants.{Malformed, Unquoted, Long}
-use Rattle.sheet_line.specs.declared.LineAnswer.TheVariants.{Passes, Wrong}
+use Rattle.std.specs.Prelude.{Ok, Err}
 use Rattle.sheet_line.proofs.Fields.{count_is}
 
 module _ (s : List ℕ) (ended w : Bool) (is-w : w ≡ well_formed s) where
-  pub wrong_malformed : not (ended && w) ≡ true → Wrong Malformed ≡ line_judged (line_faults ended s)
+  pub wrong_malformed : not (ended && w) ≡ true → Err Malformed ≡ line_judged (line_faults ended s)
   unfolding line_faults due line_judged
   wrong_malformed e = rw (← is-w, e)
 
   module _ (w-yes : not (ended && w) ≡ false) (q : Bool) (is-q : q ≡ quoted s) where
-    pub wrong_unquoted : not q ≡ true → Wrong Unquoted ≡ line_judged (line_faults ended s)
+    pub wrong_unquoted : not q ≡ true → Err Unquoted ≡ line_judged (line_faults ended s)
     unfolding line_faults due line_judged
     wrong_unquoted e = rw (← is-w, w-yes, ← is-q, e)
 
     module _ (q-yes : not q ≡ false) (i : List ℕ) (is-i : i ≡ drop 1 (trace_on s)) (n : ℕ) (is-n : n ≡ length (in_quotes false i)) where
-      pub wrong_long : 15 < n → Wrong Long ≡ line_judged (line_faults ended s)
+      pub wrong_long : 15 < n → Err Long ≡ line_judged (line_faults ended s)
       unfolding line_faults due line_judged
       wrong_long h = rw (← is-w, w-yes, ← is-q, not-false q q-yes, ← (count_is s i n is-i is-n), lt-ltb 15 n h)
 
-      pub wrong_nothing : n ≤ 15 → Passes ≡ line_judged (line_faults ended s)
+      pub wrong_nothing : n ≤ 15 → Ok tt ≡ line_judged (line_faults ended s)
       unfolding line_faults due line_judged
       wrong_nothing h = rw (← is-w, w-yes, ← is-q, not-false q q-yes, ← (count_is s i n is-i is-n), le-ltb 15 n h)
 

@@ -1,6 +1,6 @@
 -- One line of ask 1 of 02, without the LF that ends it, taken apart: its four fields, what is wrong with it, and the catalogue's record that it says.
 -- Where a comma is missing, the field behind it is empty; an empty label or flags are malformed.
-use Rattle.std.specs.Prelude.{ℕ, ◌-◌, ◌/◌, ◌%◌, Bool, false, cond, not, ◌&&◌, List, [], ◌∷◌, ◌++◌, leb, ltb, length, drop, replicate}
+use Rattle.std.specs.Prelude.{ℕ, ◌-◌, ◌/◌, ◌%◌, Bool, false, cond, not, ◌&&◌, List, [], ◌∷◌, ◌++◌, leb, ltb, length, drop, replicate, Result, Ok, Err, ⊤}
 use Rattle.refusals.specs.Refusals.{Fault, given}
 use Rattle.split.specs.Split.{up_to, past, opens}
 use Rattle.digits.specs.Digits.{is_number, value_from, is_label, label_value}
@@ -9,8 +9,6 @@ use Rattle.records.specs.Record.{old_kind}
 use Rattle.sheet_line.specs.Grammar.{comma}
 use Rattle.sheet_line.specs.declared.LineFault.{LineFault}
 use Rattle.sheet_line.specs.declared.LineFault.TheVariants.{Malformed, Unquoted, Long}
-use Rattle.sheet_line.specs.declared.LineAnswer.{LineAnswer}
-use Rattle.sheet_line.specs.declared.LineAnswer.TheVariants.{Passes, Wrong}
 
 -- ---- the fields
 
@@ -56,9 +54,9 @@ line_faults ended s =
     ++ given 17 Long (quoted s && ltb 15 (length (characters s))))
 
 -- the first of what is wrong, which is what is answered
-unfoldable pub line_judged : List (Fault LineFault) → LineAnswer
-line_judged [] = Passes
-line_judged (f ∷ fs) = Wrong f.why
+unfoldable pub line_judged : List (Fault LineFault) → Result ⊤ LineFault
+line_judged [] = Ok tt
+line_judged (f ∷ fs) = Err f.why
 
 -- ---- the record
 

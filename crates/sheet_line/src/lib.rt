@@ -9,7 +9,7 @@ ghost use Rattle.sheet_line.specs.Line.{number_field, label_field, trace_on, quo
 ghost use Rattle.sheet_line.specs.Inner.{Sound};
 
 // What may be wrong with a line, in the order in which it is looked for.
-#[derive(Clone, Copy)]
+#[derive(Clone, Copy, PartialEq, Eq)]
 pub enum LineFault {
     // written in another way than ask 1 has it, or longer than 80 bytes, or ended by no LF
     Malformed,
@@ -17,13 +17,6 @@ pub enum LineFault {
     Unquoted,
     // a trace of more than 15 characters
     Long,
-}
-
-// What is wrong first, or that nothing is.
-#[derive(Clone, Copy)]
-pub enum LineAnswer {
-    Wrong(LineFault),
-    Passes,
 }
 
 const COMMA: u8 = 0x2c;
@@ -83,19 +76,19 @@ fn well_formed(s: &[u8]) -> bool
 }
 
 // What is wrong first with a line; `ended` says whether an LF ends it.
-pub fn answer(s: &[u8], ended: bool) -> LineAnswer
+pub fn answer(s: &[u8], ended: bool) -> Result<(), LineFault>
     ensures { result ≡ line_judged (line_faults ended s.now) }
 {
     if !(ended & well_formed(s)) {
-        return LineAnswer::Wrong(LineFault::Malformed);
+        return Err(LineFault::Malformed);
     }
     if !is_quoted(s) {
-        return LineAnswer::Wrong(LineFault::Unquoted);
+        return Err(LineFault::Unquoted);
     }
     if 15 < quotes::count(inside(s)) {
-        return LineAnswer::Wrong(LineFault::Long);
+        return Err(LineFault::Long);
     }
-    LineAnswer::Passes
+    Ok(())
 }
 
 // The mark, the number and the label of a line's record.

@@ -5,13 +5,13 @@ use Rattle.sheet_line.specs.Refusals.{line_number}
 use Rattle.sheet_refusals.specs.declared.Refusal.{Refusal}
 use Rattle.sheet_refusals.specs.declared.Refusal.TheVariants.{TooMany, Line, Catalogue}
 
-unfoldable pub import_number : Refusal → ℕ
+abbrev pub import_number : Refusal → ℕ
 import_number TooMany = 18
 import_number (Line x line) = line_number x
 import_number (Catalogue x) = catalogue_number x
 
 -- a refusal of the catalogue names the record, which is the line
-unfoldable pub import_places : Refusal → List ℕ
+abbrev pub import_places : Refusal → List ℕ
 import_places TooMany = 513 ∷ []
 import_places (Line x line) = line ∷ []
 import_places (Catalogue x) = catalogue_places x

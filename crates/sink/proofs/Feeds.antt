@@ -8,8 +8,7 @@ use lib.ListN.{length, get_or}
 use Rattle.word.specs.Word.{word_of}
 use Rattle.refusals.specs.Refusals.{answer_says, answer_of}
 use Rattle.refusals.specs.declared.Refusal.{Refusal}
-use Rattle.refusals.specs.declared.Answer.{Answer}
-use Rattle.refusals.specs.declared.Answer.TheVariants.{Done, Refused}
+use Rattle.std.specs.Prelude.{Result, Ok, Err, ⊤}
 use Rattle.refusals.proofs.Wrong.{outcome_done, outcome_refused, outcome_said}
 use Rattle.shape.specs.Shape.{Fit}
 use Rattle.shape.specs.declared.Shape.{Shape}
@@ -110,7 +109,7 @@ pub unit_told : (p : Pointer) (total : ℕ) (left : AfterUnit) (e : Settings)
     → settled ≡ settled_of normal left.monitor e → after ≡ total_of total settled
     → actions ≡ actions_of termination (not normal) defects → causes ≡ causes_of termination alarm (not normal && not alarm) defects e.flags
     → record {
-      answer = Done;
+      answer = Ok tt;
       state = record { pointer = p; held = left.held; monitor = left.monitor; total = after };
       ended = left.ended;
       actions = actions;
@@ -128,7 +127,7 @@ unit_told p total left e normal alarm settled defects actions causes after n a d
 pub told_none : (state : State) (x : Refusal) (none : AfterUnit) (defects : Defects) (actions : Actions) (f : Flags) (causes : Causes)
     → none ≡ silence → defects ≡ defects_of none.monitor → f ≡ flags_of 0 → actions ≡ actions_of termination false defects → causes ≡ causes_of termination false false defects f
     → record {
-      answer = Refused x;
+      answer = Err x;
       state = state;
       ended = none.ended;
       actions = actions;
@@ -143,22 +142,22 @@ told_none state x none defects actions f causes h d g a c = rw (a, c, g, d, h) r
 -- ---- the call
 
 module _ (s : Shape) (state : State) (e : Settings) (unit held done : List ℕ)
-    (r : Answer) (r-is : r ≡ answer_of (sink_faults s state e (length unit) (length held) (length done)))
+    (r : Result ⊤ Refusal) (r-is : r ≡ answer_of (sink_faults s state e (length unit) (length held) (length done)))
   where
-    pub feed_refused : (x : Refusal) (q : Received) → r ≡ Refused x → q ≡ refusing state x → ReceivesAs s state e unit held done q held done
+    pub feed_refused : (x : Refusal) (q : Received) → r ≡ Err x → q ≡ refusing state x → ReceivesAs s state e unit held done q held done
     unfolding sink
     feed_refused x q h q-is =
         rw (outcome_refused (sink_faults s state e (length unit) (length held) (length done)) _ _ x (sym r-is ∙ h), q-is) refl
 
     -- nothing is wrong with it
-    pub feed_fine : r ≡ Done → Fed s state (length unit) (length held) (length done)
+    pub feed_fine : r ≡ Ok tt → Fed s state (length unit) (length held) (length done)
     feed_fine h = fed s state e (length unit) (length held) (length done) (sym r-is ∙ h)
 
     -- so that its word is there
-    pub word_there : Fit s → r ≡ Done → s.step < length unit
+    pub word_there : Fit s → r ≡ Ok tt → s.step < length unit
     word_there f h = omega (arith, (feed_fine h).unit_is, f.some, f.two)
 
-    module _ (h : r ≡ Done) (a : AfterWord) (a-is : a ≡ pointed s state.pointer unit) where
+    module _ (h : r ≡ Ok tt) (a : AfterWord) (a-is : a ≡ pointed s state.pointer unit) where
       pub feed_pointed : Fit s → Pointed s state a unit held done
       feed_pointed f = record { fit = f; fed = feed_fine h; after_is = a-is }
 

@@ -12,8 +12,7 @@ use Rattle.settings.proofs.Refuses.{settings_numbered}
 use Rattle.refusals.specs.Refusals.{Fault, given, due, number_of, says, answer_of}
 use Rattle.refusals.specs.declared.Refusal.{Refusal}
 use Rattle.refusals.specs.declared.Refusal.TheVariants as wrong
-use Rattle.refusals.specs.declared.Answer.{Answer}
-use Rattle.refusals.specs.declared.Answer.TheVariants.{Done, Refused}
+use Rattle.std.specs.Prelude.{Result, Ok, Err, ⊤}
 use Rattle.refusals.proofs.Wrong.{due_none, due_false, none_wrong, Numbered, numbered_row, numbered_both, numbered_last}
 use Rattle.refusals.proofs.Joined.{joined_refused, joined_done, joined_none}
 use Rattle.shape.specs.Shape.{unit_length, held_count}
@@ -82,7 +81,7 @@ module _ (s : Shape) (state : State) (e : Settings) (unit held done : ℕ) where
   lengths = given 1 wrong.Unit (not (eqb unit (unit_length s))) ++ given 3 wrong.Container (not (eqb held s.size) || not (eqb done s.size))
 
   module _ (o : Bool) (is-o : o ≡ sink_out_of_range s state) where
-    pub wrong_state : o ≡ true → Refused wrong.State ≡ answer_of faults
+    pub wrong_state : o ≡ true → Err wrong.State ≡ answer_of faults
     unfolding sink_faults due answer_of
     wrong_state h = rw (← is-o, h) refl
 
@@ -91,24 +90,24 @@ module _ (s : Shape) (state : State) (e : Settings) (unit held done : ℕ) where
       unfolding sink_faults due
       settings_next = rw (← is-o, o-no) refl
 
-      module _ (r : Answer) (is-r : r ≡ answer_of (settings_faults e)) where
-        pub wrong_settings : (x : Refusal) → r ≡ Refused x → Refused x ≡ answer_of faults
+      module _ (r : Result ⊤ Refusal) (is-r : r ≡ answer_of (settings_faults e)) where
+        pub wrong_settings : (x : Refusal) → r ≡ Err x → Err x ≡ answer_of faults
         wrong_settings x h = sym (settings_next ∙ joined_refused (settings_faults e) lengths x (sym is-r ∙ h))
 
-        module _ (r-no : r ≡ Done) where
+        module _ (r-no : r ≡ Ok tt) where
           lengths_next : answer_of faults ≡ answer_of lengths
           lengths_next = settings_next ∙ joined_done (settings_faults e) lengths (sym is-r ∙ r-no)
 
-          pub wrong_unit : (unit ≡ unit_length s → ⊥) → Refused wrong.Unit ≡ answer_of faults
+          pub wrong_unit : (unit ≡ unit_length s → ⊥) → Err wrong.Unit ≡ answer_of faults
           unfolding due answer_of
           wrong_unit h = sym (lengths_next ∙ rw (ne_eqb unit (unit_length s) h) refl)
 
           module _ (full : unit ≡ unit_length s) where
-            pub wrong_buffer : (not (eqb held s.size) || not (eqb done s.size)) ≡ true → Refused wrong.Container ≡ answer_of faults
+            pub wrong_buffer : (not (eqb held s.size) || not (eqb done s.size)) ≡ true → Err wrong.Container ≡ answer_of faults
             unfolding due answer_of
             wrong_buffer h = sym (lengths_next ∙ rw (eq-eqb unit (unit_length s) full, h) refl)
 
-            pub nothing_wrong : (not (eqb held s.size) || not (eqb done s.size)) ≡ false → Done ≡ answer_of faults
+            pub nothing_wrong : (not (eqb held s.size) || not (eqb done s.size)) ≡ false → Ok tt ≡ answer_of faults
             unfolding due answer_of
             nothing_wrong h = sym (lengths_next ∙ rw (eq-eqb unit (unit_length s) full, h) refl)
 
@@ -118,7 +117,7 @@ module _ (s : Shape) (state : State) (e : Settings) (unit held done : ℕ) where
   numbered = search (numbered_row, numbered_both, numbered_last, settings_numbered)
 
   -- a call that is done had nothing wrong with it
-  pub fed : answer_of faults ≡ Done → Fed s state unit held done
+  pub fed : answer_of faults ≡ Ok tt → Fed s state unit held done
   unfolding sink_faults
   fed d =
       let p1 = due_none (sink_out_of_range s state) _ _ (none_wrong faults d) in

@@ -1,13 +1,12 @@
 -- The sink: one call, as a function of all that it is given. 01, from "Reading one pointer word" to "Refusal numbers". Each part is a machine of its own:
 -- how a word is taken (`pointer_rules`), the pointer (`pointer`), the cut of a unit (`cut`), what is watched in a container (`monitor`), what a unit leaves (`receiving`),
 -- what is told of it (`unit_end`). Here they are put in order.
-use Rattle.std.specs.Prelude.{◌≡◌, ℕ, Bool, false, cond, not, ◌||◌, List, [], ◌∷◌, ◌++◌, eqb, length, get_or}
+use Rattle.std.specs.Prelude.{◌≡◌, ℕ, Bool, false, cond, not, ◌||◌, List, [], ◌∷◌, ◌++◌, eqb, length, get_or, Ok, Err}
 use Rattle.word.specs.Word.{word_of}
 use Rattle.settings.specs.Faults.{settings_faults}
 use Rattle.refusals.specs.Refusals.{Fault, answer_says, given, said_by, outcome}
 use Rattle.refusals.specs.declared.Refusal.{Refusal}
 use Rattle.refusals.specs.declared.Refusal.TheVariants as wrong
-use Rattle.refusals.specs.declared.Answer.TheVariants.{Done, Refused}
 use Rattle.shape.specs.Shape.{unit_length, held_count}
 use Rattle.shape.specs.declared.Shape.{Shape}
 use Rattle.pointer_state.specs.State.{is_alarm, is_lost, is_normal, offset_of}
@@ -74,7 +73,7 @@ told p total u e =
     let defects = defects_of u.monitor in
     let settled = settled_of (is_normal p.state) u.monitor e in
     record {
-      answer = Done;
+      answer = Ok tt;
       state = record { pointer = p; held = u.held; monitor = u.monitor; total = total_of total settled };
       ended = u.ended;
       actions = actions_of termination (ssf_of alarm lost) defects;
@@ -95,7 +94,7 @@ pub record ReceivedOutcome : Type 0 where
 unfoldable pub refusing : State → Refusal → Received
 refusing state x =
     record {
-      answer = Refused x;
+      answer = Err x;
       state = state;
       ended = silence.ended;
       actions = no_actions;

@@ -11,7 +11,7 @@ ghost use Rattle.sink.specs.Inner.{Pointed, UnitOutcomeIs};
 use monitor::Monitor;
 use pointer::{AfterWord, Pointer};
 use receiving::{AfterUnit, Ended};
-use refusals::{Answer, Refusal};
+use refusals::Refusal;
 use settings::Settings;
 use shape::Shape;
 use unit_end::{Actions, Causes, Defects};
@@ -29,7 +29,7 @@ pub struct State {
 // refused the state is the old one, and nothing is told of a unit.
 #[derive(Clone, Copy)]
 pub struct Received {
-    pub answer: Answer,
+    pub answer: Result<(), Refusal>,
     pub state: State,
     pub ended: Ended,
     pub actions: Actions,
@@ -68,26 +68,28 @@ fn out_of_range(shape: Shape, s: State) -> bool
 }
 
 // The answer to a call, by its state and settings, and the lengths of what it is lent.
-fn answer(shape: Shape, s: State, e: Settings, unit: usize, held: usize, done: usize) -> Answer
+fn answer(
+    shape: Shape,
+    s: State,
+    e: Settings,
+    unit: usize,
+    held: usize,
+    done: usize,
+) -> Result<(), Refusal>
     requires { Fit shape }
     ensures { result ≡ answer_of (sink_faults shape s e unit held done) }
 {
     if out_of_range(shape, s) {
-        return Answer::Refused(Refusal::State);
+        return Err(Refusal::State);
     }
-    match settings::answer(e) {
-        Answer::Refused(x) => {
-            return Answer::Refused(x);
-        }
-        Answer::Done => {}
-    }
+    settings::answer(e)?;
     if unit != 3 * shape.step + shape.size {
-        return Answer::Refused(Refusal::Unit);
+        return Err(Refusal::Unit);
     }
     if (held != shape.size) | (done != shape.size) {
-        return Answer::Refused(Refusal::Container);
+        return Err(Refusal::Container);
     }
-    Answer::Done
+    Ok(())
 }
 
 // The unit's word, read: how it is taken, and the pointer after it.
@@ -152,7 +154,7 @@ fn tell(p: Pointer, total: u16, u: AfterUnit, e: Settings) -> Received
         total: unit_end::total_after(total, settled),
     };
     Received {
-        answer: Answer::Done,
+        answer: Ok(()),
         state: s,
         ended,
         actions: unit_end::actions_of(!normal, defects),
@@ -171,7 +173,7 @@ fn refuse(s: State, x: Refusal) -> Received
     let m = none.monitor;
     let defects = unit_end::defects_of(m);
     Received {
-        answer: Answer::Refused(x),
+        answer: Err(x),
         state: s,
         ended,
         actions: unit_end::actions_of(false, defects),
@@ -194,10 +196,10 @@ fn feed(
     ensures { ReceivesAs shape s e unit.now held.old done.old result held.new done.new }
 {
     match answer(shape, s, e, unit.len(), held.len(), done.len()) {
-        Answer::Refused(x) => {
+        Err(x) => {
             return refuse(s, x);
         }
-        Answer::Done => {}
+        Ok(()) => {}
     }
     let before = s.pointer;
     let a = point(shape, before, unit);

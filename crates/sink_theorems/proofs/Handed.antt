@@ -5,7 +5,7 @@ use mathlib.Core.List.{List, [], ◌++◌}
 use Prim.Native.Nat.{ℕ, ◌+◌, ◌≤◌}
 use lib.ListN.{length}
 use Rattle.refusals.specs.declared.Refusal.{Refusal}
-use Rattle.refusals.specs.declared.Answer.TheVariants.{Done, Refused}
+use Rattle.std.specs.Prelude.{Ok, Err}
 use Rattle.refusals.proofs.Wrong.{outcome_done, outcome_by}
 use Rattle.shape.specs.Shape.{Fit}
 use Rattle.shape.specs.declared.Shape.{Shape}
@@ -45,7 +45,7 @@ second_part s k unit false h = refl
 
 -- ---- a call that is done
 
-module _ (s : Shape) (f : Fit s) (state : State) (c : SinkCall) (d : (sink_called s state c).received.answer ≡ Done) where
+module _ (s : Shape) (f : Fit s) (state : State) (c : SinkCall) (d : (sink_called s state c).received.answer ≡ Ok tt) where
   abbrev a : AfterWord
   a = pointed s state.pointer c.unit
 
@@ -85,9 +85,9 @@ module _ (s : Shape) (f : Fit s) (state : State) (c : SinkCall) (d : (sink_calle
   handed_silent n = rw (called_is, n) refl
 
 -- nothing where it refuses
-pub handed_refused : (s : Shape) (state : State) (c : SinkCall) (x : Refusal) → (sink_called s state c).received.answer ≡ Refused x → handed s c (sink_called s state c) ≡ []
+pub handed_refused : (s : Shape) (state : State) (c : SinkCall) (x : Refusal) → (sink_called s state c).received.answer ≡ Err x → handed s c (sink_called s state c) ≡ []
 unfolding handed in_order sink told refusing silence
 handed_refused s state c x =
-    outcome_by (λ (o : ReceivedOutcome). o.received.answer ≡ Refused x → handed s c o ≡ []) (faults s state c)
+    outcome_by (λ (o : ReceivedOutcome). o.received.answer ≡ Err x → handed s c o ≡ []) (faults s state c)
     (λ h. absurd (done_not_refused x h))
     (λ _ _. refl)

@@ -8,7 +8,7 @@ use lib.ListN.{length}
 use Rattle.laws.proofs.Tests.{by_test}
 use Rattle.refusals.proofs.Wrong.{outcome_by}
 use Rattle.refusals.specs.declared.Refusal.TheVariants as wrong
-use Rattle.refusals.specs.declared.Answer.TheVariants.{Refused}
+use Rattle.std.specs.Prelude.{Err}
 use Rattle.shape.specs.Shape.{Fit, held_count}
 use Rattle.shape.specs.declared.Shape.{Shape}
 use Rattle.shape.proofs.Offsets.{held_none}
@@ -126,5 +126,5 @@ pub reached_in_range : (s : Shape) (calls : List SinkCall) → Fit s → sink_ou
 reached_in_range s calls f = calls_in_range s fresh_sink calls f (fresh_in s)
 
 -- and so no call of it is refused by 8
-pub reached_not_8 : (s : Shape) (calls : List SinkCall) (c : SinkCall) → Fit s → (sink_called s (reached s calls) c).received.answer ≡ Refused wrong.State → ⊥
+pub reached_not_8 : (s : Shape) (calls : List SinkCall) (c : SinkCall) → Fit s → (sink_called s (reached s calls) c).received.answer ≡ Err wrong.State → ⊥
 reached_not_8 s calls c f h = not_8 s (reached s calls) c (reached_in_range s calls f) h

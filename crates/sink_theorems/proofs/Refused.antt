@@ -11,7 +11,7 @@ use Rattle.settings.proofs.Refuses.{settings_not_8, check_answer}
 use Rattle.refusals.specs.Refusals.{Fault, due, given, answer_of, answer_number, number_of}
 use Rattle.refusals.specs.declared.Refusal.{Refusal}
 use Rattle.refusals.specs.declared.Refusal.TheVariants as wrong
-use Rattle.refusals.specs.declared.Answer.TheVariants.{Done, Refused}
+use Rattle.std.specs.Prelude.{Ok, Err}
 use Rattle.refusals.proofs.Wrong.{outcome_by, outcome_answer}
 use Rattle.refusals.proofs.Joined.{joined_refused}
 use Rattle.shape.specs.Shape.{unit_length}
@@ -31,7 +31,7 @@ answer_is s state c = outcome_answer (λ (o : ReceivedOutcome). o.received.answe
 
 -- ---- a call is not both done and refused
 
-pub done_not_refused : (x : Refusal) → Done ≡ Refused x → ⊥
+pub done_not_refused : (x : Refusal) → Ok tt ≡ Err x → ⊥
 done_not_refused x h = let z : ◌≡◌ {A = ℕ} 0 1 = cc in absurd (omega arith)
 
 -- ---- what is kept
@@ -43,18 +43,18 @@ pub record Kept (state : State) (c : SinkCall) (o : ReceivedOutcome) : Type 0 wh
   pub done_is : o.done ≡ c.done
 
 -- A REFUSED CALL GIVES BACK THE STATE IT WAS GIVEN, and writes nothing
-pub refused_kept : (s : Shape) (state : State) (c : SinkCall) (x : Refusal) → (sink_called s state c).received.answer ≡ Refused x → Kept state c (sink_called s state c)
+pub refused_kept : (s : Shape) (state : State) (c : SinkCall) (x : Refusal) → (sink_called s state c).received.answer ≡ Err x → Kept state c (sink_called s state c)
 unfolding sink told refusing
 refused_kept s state c x =
-    outcome_by (λ (o : ReceivedOutcome). o.received.answer ≡ Refused x → Kept state c o) (faults s state c)
+    outcome_by (λ (o : ReceivedOutcome). o.received.answer ≡ Err x → Kept state c o) (faults s state c)
     (λ h. absurd (done_not_refused x h))
     (λ y _. record { state_is = refl; held_is = refl; done_is = refl })
 
 -- ---- refusal 8
 
 -- none of the refusals after it is 8
-later_not_8 : (l : List (Fault Refusal)) (u b : Bool) → (answer_of l ≡ Refused wrong.State → ⊥)
-    → answer_of (l ++ (given 1 wrong.Unit u ++ given 3 wrong.Container b)) ≡ Refused wrong.State → ⊥
+later_not_8 : (l : List (Fault Refusal)) (u b : Bool) → (answer_of l ≡ Err wrong.State → ⊥)
+    → answer_of (l ++ (given 1 wrong.Unit u ++ given 3 wrong.Container b)) ≡ Err wrong.State → ⊥
 unfolding due answer_of answer_number number_of
 later_not_8 [] true b k h = let n : ◌≡◌ {A = ℕ} 1 8 = ap answer_number h in absurd (omega arith)
 later_not_8 [] false true k h = let n : ◌≡◌ {A = ℕ} 3 8 = ap answer_number h in absurd (omega arith)
@@ -62,7 +62,7 @@ later_not_8 [] false false k h = let n : ◌≡◌ {A = ℕ} 0 8 = ap answer_num
 later_not_8 (f ∷ l) u b k h = k h
 
 -- a state in range is not refused by 8
-pub not_8 : (s : Shape) (state : State) (c : SinkCall) → sink_out_of_range s state ≡ false → (sink_called s state c).received.answer ≡ Refused wrong.State → ⊥
+pub not_8 : (s : Shape) (state : State) (c : SinkCall) → sink_out_of_range s state ≡ false → (sink_called s state c).received.answer ≡ Err wrong.State → ⊥
 unfolding sink_faults due
 not_8 s state c h e =
     later_not_8 (settings_faults c.settings) (not (eqb (length c.unit) (unit_length s)))
@@ -73,6 +73,6 @@ not_8 s state c h e =
 
 -- EVERY CALL WITH SETTINGS THAT THE CHECK REFUSES IS REFUSED AS IT SAYS, with its number and its place, whatever the unit and the buffers; only a state out of range comes before
 pub checked_refused : (s : Shape) (state : State) (c : SinkCall) → length c.settings.trace ≡ 15 → sink_out_of_range s state ≡ false
-    → (x : Refusal) → settings_answer c.settings.label c.settings.trace ≡ Refused x → (sink_called s state c).received.answer ≡ Refused x
+    → (x : Refusal) → settings_answer c.settings.label c.settings.trace ≡ Err x → (sink_called s state c).received.answer ≡ Err x
 unfolding sink_faults due
 checked_refused s state c fifteen inside x e = rw (answer_is s state c, inside) (joined_refused (settings_faults c.settings) _ x (sym (check_answer c.settings fifteen) ∙ e))

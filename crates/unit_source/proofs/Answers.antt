@@ -11,8 +11,7 @@ use Rattle.refusals.specs.Refusals.{due, number_of, says, answer_says, answer_of
 use Rattle.refusals.proofs.Wrong.{due_none, due_false, none_wrong, outcome_done, outcome_refused, Numbered, numbered_row, numbered_last, outcome_said}
 use Rattle.refusals.specs.declared.Refusal.{Refusal}
 use Rattle.refusals.specs.declared.Refusal.TheVariants as wrong
-use Rattle.refusals.specs.declared.Answer.{Answer}
-use Rattle.refusals.specs.declared.Answer.TheVariants.{Done, Refused}
+use Rattle.std.specs.Prelude.{Result, Ok, Err, ⊤}
 use Rattle.shape.specs.Shape.{unit_length, offset_after, ended_by}
 use Rattle.shape.specs.declared.Shape.{Shape}
 use Rattle.shape.specs.declared.Adjustment.{Adjustment}
@@ -24,26 +23,26 @@ use Rattle.unit_source.specs.declared.Made.{Made}
 -- ---- the order of the tests
 
 module _ (s : Shape) (state : State) (a : Adjustment) (current next unit : ℕ) (out : Bool) (out-is : out ≡ source_out_of_range s.top state) where
-  pub wrong_state : out ≡ true → Refused wrong.State ≡ answer_of (make_faults s state a current next unit)
+  pub wrong_state : out ≡ true → Err wrong.State ≡ answer_of (make_faults s state a current next unit)
   unfolding make_faults due answer_of
   wrong_state h = rw (← out-is, h) refl
 
   module _ (in_range : out ≡ false) where
-    pub wrong_container : (not (eqb current s.size) || not (eqb next s.size)) ≡ true → Refused wrong.Container ≡ answer_of (make_faults s state a current next unit)
+    pub wrong_container : (not (eqb current s.size) || not (eqb next s.size)) ≡ true → Err wrong.Container ≡ answer_of (make_faults s state a current next unit)
     unfolding make_faults due answer_of
     wrong_container h = rw (← out-is, in_range, h) refl
 
     module _ (both : (not (eqb current s.size) || not (eqb next s.size)) ≡ false) where
-      pub wrong_unit : (unit ≡ unit_length s → ⊥) → Refused wrong.Unit ≡ answer_of (make_faults s state a current next unit)
+      pub wrong_unit : (unit ≡ unit_length s → ⊥) → Err wrong.Unit ≡ answer_of (make_faults s state a current next unit)
       unfolding make_faults due answer_of
       wrong_unit h = rw (← out-is, in_range, both, ne_eqb unit (unit_length s) h) refl
 
       module _ (unit_is : unit ≡ unit_length s) (asked : Bool) (Asked-is : asked ≡ adjusts a) where
-        pub wrong_adjustment : (asked && ltb state.wait 3) ≡ true → Refused wrong.Adjustment ≡ answer_of (make_faults s state a current next unit)
+        pub wrong_adjustment : (asked && ltb state.wait 3) ≡ true → Err wrong.Adjustment ≡ answer_of (make_faults s state a current next unit)
         unfolding make_faults due answer_of
         wrong_adjustment h = rw (← out-is, in_range, both, eq-eqb unit (unit_length s) unit_is, ← Asked-is, h) refl
 
-        pub nothing_wrong : (asked && ltb state.wait 3) ≡ false → Done ≡ answer_of (make_faults s state a current next unit)
+        pub nothing_wrong : (asked && ltb state.wait 3) ≡ false → Ok tt ≡ answer_of (make_faults s state a current next unit)
         unfolding make_faults due answer_of
         nothing_wrong h = rw (← out-is, in_range, both, eq-eqb unit (unit_length s) unit_is, ← Asked-is, h) refl
 
@@ -56,7 +55,7 @@ pub record Makable (s : Shape) (state : State) (a : Adjustment) (current next un
   pub free : adjusts a ≡ true → 3 ≤ state.wait
 
 module _ (s : Shape) (state : State) (a : Adjustment) (current next unit : ℕ) where
-  pub makable : answer_of (make_faults s state a current next unit) ≡ Done → Makable s state a current next unit
+  pub makable : answer_of (make_faults s state a current next unit) ≡ Ok tt → Makable s state a current next unit
   unfolding make_faults source_out_of_range
   makable e =
       let w = none_wrong (make_faults s state a current next unit) e in
@@ -78,7 +77,7 @@ module _ (s : Shape) (state : State) (a : Adjustment) (current next unit : ℕ) 
         free = λ h. ltb-false state.wait 3 (rw h at late);
       }
 
-  pub not_refused : Makable s state a current next unit → answer_of (make_faults s state a current next unit) ≡ Done
+  pub not_refused : Makable s state a current next unit → answer_of (make_faults s state a current next unit) ≡ Ok tt
   unfolding make_faults source_out_of_range due answer_of
   not_refused h =
       let r = h.ready in
@@ -92,29 +91,29 @@ module _ (s : Shape) (state : State) (a : Adjustment) (current next unit : ℕ) 
 -- ---- what a call leaves
 
 module _ (s : Shape) (state : State) (a : Adjustment) (current next before : List ℕ) where
-  pub source_done : answer_of (make_faults s state a (length current) (length next) (length before)) ≡ Done
+  pub source_done : answer_of (make_faults s state a (length current) (length next) (length before)) ≡ Ok tt
       → unit_source s state a current next before
-      ≡ record { made = record { answer = Done; ended = ended_by a state.offset; state = unit_source_after s a state }; unit = unit_sent s a state.offset current next }
+      ≡ record { made = record { answer = Ok tt; ended = ended_by a state.offset; state = unit_source_after s a state }; unit = unit_sent s a state.offset current next }
   unfolding unit_source
   source_done e = outcome_done (make_faults s state a (length current) (length next) (length before)) _ _ e
 
-  pub source_refused : (x : Refusal) → answer_of (make_faults s state a (length current) (length next) (length before)) ≡ Refused x
-      → unit_source s state a current next before ≡ record { made = record { answer = Refused x; ended = 0; state = state }; unit = before }
+  pub source_refused : (x : Refusal) → answer_of (make_faults s state a (length current) (length next) (length before)) ≡ Err x
+      → unit_source s state a current next before ≡ record { made = record { answer = Err x; ended = 0; state = state }; unit = before }
   unfolding unit_source
   source_refused x e = outcome_refused (make_faults s state a (length current) (length next) (length before)) _ _ x e
 
 -- ---- what `make` has to show: where it writes, and at its two ends
 
-module _ (s : Shape) (state : State) (a : Adjustment) (current next before : List ℕ) (r : Answer) (r-is : r ≡ answer_of (make_faults s state a (length current) (length next) (length before))) where
-  pub made_ready : r ≡ Done → Ready s state.offset (length current) (length next) (length before)
+module _ (s : Shape) (state : State) (a : Adjustment) (current next before : List ℕ) (r : Result ⊤ Refusal) (r-is : r ≡ answer_of (make_faults s state a (length current) (length next) (length before))) where
+  pub made_ready : r ≡ Ok tt → Ready s state.offset (length current) (length next) (length before)
   made_ready h = (makable s state a (length current) (length next) (length before) (sym r-is ∙ h)).ready
 
-  pub made_refused : (x : Refusal) → r ≡ Refused x → MakesAs s state a current next before (record { answer = Refused x; ended = 0; state = state }) before
+  pub made_refused : (x : Refusal) → r ≡ Err x → MakesAs s state a current next before (record { answer = Err x; ended = 0; state = state }) before
   made_refused x h = sym (source_refused s state a current next before x (sym r-is ∙ h))
 
-  pub made_done : (ended offset wait : ℕ) (after : List ℕ) → r ≡ Done → ended ≡ ended_by a state.offset → offset ≡ offset_after s.top a state.offset → wait ≡ source_wait_after a state.wait
+  pub made_done : (ended offset wait : ℕ) (after : List ℕ) → r ≡ Ok tt → ended ≡ ended_by a state.offset → offset ≡ offset_after s.top a state.offset → wait ≡ source_wait_after a state.wait
       → after ≡ unit_sent s a state.offset current next
-      → MakesAs s state a current next before (record { answer = Done; ended = ended; state = record { offset = offset; wait = wait } }) after
+      → MakesAs s state a current next before (record { answer = Ok tt; ended = ended; state = record { offset = offset; wait = wait } }) after
   unfolding unit_source_after
   made_done ended offset wait after h e o w u = rw (e, o, w, u) (sym (source_done s state a current next before (sym r-is ∙ h)))
 

@@ -1,11 +1,10 @@
 -- The unit source: one call, as a function of all that it is given. 01, "Layouts", "Reading one pointer word" (its last words, on adjustments) and "Refusal numbers".
-use Rattle.std.specs.Prelude.{◌≡◌, ℕ, ◌-◌, Bool, true, false, ◌&&◌, ◌||◌, not, List, [], ◌∷◌, ◌++◌, eqb, ltb, length}
+use Rattle.std.specs.Prelude.{◌≡◌, ℕ, ◌-◌, Bool, true, false, ◌&&◌, ◌||◌, not, List, [], ◌∷◌, ◌++◌, eqb, ltb, length, Ok, Err}
 use Rattle.counts.specs.Counts.{more}
 use Rattle.word.specs.Word.{plain_word, inverted_word, bits_i, bits_d}
 use Rattle.refusals.specs.Refusals.{Fault, answer_says, given, said_by, outcome}
 use Rattle.refusals.specs.declared.Refusal.{Refusal}
 use Rattle.refusals.specs.declared.Refusal.TheVariants as wrong
-use Rattle.refusals.specs.declared.Answer.TheVariants.{Done, Refused}
 use Rattle.shape.specs.Shape.{unit_length, held_count, offset_after, run_from, ended_by}
 use Rattle.shape.specs.declared.Shape.{Shape}
 use Rattle.shape.specs.declared.Adjustment.{Adjustment}
@@ -75,8 +74,8 @@ pub record MadeOutcome : Type 0 where
 unfoldable pub unit_source : Shape → State → Adjustment → List ℕ → List ℕ → List ℕ → MadeOutcome
 unit_source s state a current next before =
     outcome (make_faults s state a (length current) (length next) (length before))
-    (record { made = record { answer = Done; ended = ended_by a state.offset; state = unit_source_after s a state }; unit = unit_sent s a state.offset current next })
-    (λ x. record { made = record { answer = Refused x; ended = 0; state = state }; unit = before })
+    (record { made = record { answer = Ok tt; ended = ended_by a state.offset; state = unit_source_after s a state }; unit = unit_sent s a state.offset current next })
+    (λ x. record { made = record { answer = Err x; ended = 0; state = state }; unit = before })
 
 -- what is answered is the call's, and the unit is left so
 abbrev pub MakesAs : Shape → State → Adjustment → List ℕ → List ℕ → List ℕ → Made → List ℕ → Type 0

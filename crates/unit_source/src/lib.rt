@@ -8,7 +8,7 @@ ghost use Rattle.refusals.specs.Refusals.{answer_of};
 ghost use Rattle.unit_source.specs.Source.{fresh_unit_source, adjusts, source_out_of_range, make_faults, word_sent, unit_sent, source_wait_after, MakesAs, Makes};
 ghost use Rattle.unit_source.specs.Inner.{Ready};
 
-use refusals::{Answer, Refusal};
+use refusals::Refusal;
 use shape::{Adjustment, Shape};
 
 // A source between two units: its offset, and the units since the last adjustment, as far as 3.
@@ -21,7 +21,7 @@ pub struct State {
 // The answer; how many of the two containers ended, 0 where the call was refused; and the state from then on, the old one where it was.
 #[derive(Clone, Copy)]
 pub struct Made {
-    pub answer: Answer,
+    pub answer: Result<(), Refusal>,
     pub ended: u8,
     pub state: State,
 }
@@ -50,23 +50,30 @@ fn out_of_range(top: u16, s: State) -> bool
 }
 
 // The answer to a call, by its state, what is asked, and the lengths of what it is lent.
-fn answer(shape: Shape, s: State, a: Adjustment, current: usize, next: usize, unit: usize) -> Answer
+fn answer(
+    shape: Shape,
+    s: State,
+    a: Adjustment,
+    current: usize,
+    next: usize,
+    unit: usize,
+) -> Result<(), Refusal>
     requires { Fit shape }
     ensures { result ≡ answer_of (make_faults shape s a current next unit) }
 {
     if out_of_range(shape.top, s) {
-        return Answer::Refused(Refusal::State);
+        return Err(Refusal::State);
     }
     if (current != shape.size) | (next != shape.size) {
-        return Answer::Refused(Refusal::Container);
+        return Err(Refusal::Container);
     }
     if unit != 3 * shape.step + shape.size {
-        return Answer::Refused(Refusal::Unit);
+        return Err(Refusal::Unit);
     }
     if is_adjustment(a) & (s.wait < 3) {
-        return Answer::Refused(Refusal::Adjustment);
+        return Err(Refusal::Adjustment);
     }
-    Answer::Done
+    Ok(())
 }
 
 // The pointer word: the offset, with its I bits inverted for an increment and its D bits for a decrement.
@@ -107,20 +114,20 @@ fn make(shape: Shape, s: State, a: Adjustment, current: &[u8], next: &[u8], unit
     ensures { MakesAs shape s a current.now next.now unit.old result unit.new }
 {
     match answer(shape, s, a, current.len(), next.len(), unit.len()) {
-        Answer::Refused(x) => {
+        Err(x) => {
             return Made {
-                answer: Answer::Refused(x),
+                answer: Err(x),
                 ended: 0,
                 state: s,
             };
         }
-        Answer::Done => {}
+        Ok(()) => {}
     }
     let offset = s.offset;
     let wait = s.wait;
     write(shape, a, offset, current, next, unit);
     Made {
-        answer: Answer::Done,
+        answer: Ok(()),
         ended: shape::ended_by(a, offset),
         state: State {
             offset: shape::offset_after(shape.top, a, offset),

@@ -4,8 +4,8 @@ use mathlib.Core.List.{List}
 use Prim.Native.Nat.{ℕ}
 use lib.ListN.{length}
 use Rattle.refusals.specs.Refusals.{answer_of}
-use Rattle.refusals.specs.declared.Answer.{Answer}
-use Rattle.refusals.specs.declared.Answer.TheVariants.{Done, Refused}
+use Rattle.refusals.specs.declared.Refusal.{Refusal}
+use Rattle.std.specs.Prelude.{Result, Ok, Err, ⊤}
 use Rattle.refusals.proofs.Wrong.{outcome_answer}
 use Rattle.shape.specs.declared.Shape.{Shape}
 use Rattle.shape.specs.declared.Adjustment.{Adjustment}
@@ -25,16 +25,16 @@ module _ (s : Shape) (state : State) (a : Adjustment) (current next before : Lis
     pub state_is : o.made.state ≡ state
     pub unit_is : o.unit ≡ before
 
-  pub unit_kept : ((unit_source s state a current next before).made.answer ≡ Done → ⊥) → Kept (unit_source s state a current next before)
+  pub unit_kept : ((unit_source s state a current next before).made.answer ≡ Ok tt → ⊥) → Kept (unit_source s state a current next before)
   unit_kept h = go (unit_source s state a current next before).made.answer refl
     where
-      go : (r : Answer) → (unit_source s state a current next before).made.answer ≡ r → Kept (unit_source s state a current next before)
-      go Done e = absurd (h e)
-      go (Refused x) e = rw (source_refused s state a current next before x (sym unit_answer ∙ e)) (record { ended_none = refl; state_is = refl; unit_is = refl })
+      go : (r : Result ⊤ Refusal) → (unit_source s state a current next before).made.answer ≡ r → Kept (unit_source s state a current next before)
+      go (Ok tt) e = absurd (h e)
+      go (Err x) e = rw (source_refused s state a current next before x (sym unit_answer ∙ e)) (record { ended_none = refl; state_is = refl; unit_is = refl })
 
   -- it is done exactly where no row applies
-  pub unit_makable : (unit_source s state a current next before).made.answer ≡ Done → Makable s state a (length current) (length next) (length before)
+  pub unit_makable : (unit_source s state a current next before).made.answer ≡ Ok tt → Makable s state a (length current) (length next) (length before)
   unit_makable e = makable s state a (length current) (length next) (length before) (sym unit_answer ∙ e)
 
-  pub makable_unit : Makable s state a (length current) (length next) (length before) → (unit_source s state a current next before).made.answer ≡ Done
+  pub makable_unit : Makable s state a (length current) (length next) (length before) → (unit_source s state a current next before).made.answer ≡ Ok tt
   makable_unit m = unit_answer ∙ not_refused s state a (length current) (length next) (length before) m

@@ -12,8 +12,7 @@ use borrow.Author.Tests.{ltb-true, ltb-false}
 use Rattle.laws.proofs.Tests.{by_test}
 use Rattle.refusals.specs.Refusals.{answer_of}
 use Rattle.refusals.specs.declared.Refusal.{Refusal}
-use Rattle.refusals.specs.declared.Answer.{Answer}
-use Rattle.refusals.specs.declared.Answer.TheVariants.{Done, Refused}
+use Rattle.std.specs.Prelude.{Result, Ok, Err, ⊤}
 use Rattle.shape.specs.Shape.{Fit, unit_length, held_count, offset_after, run_from, ended_by}
 use Rattle.shape.specs.declared.Shape.{Shape}
 use Rattle.shape.specs.declared.Adjustment.{Adjustment}
@@ -98,7 +97,7 @@ module _ (s : Shape) (f : Fit s) (box : ℕ → List ℕ) where
 
   -- a unit that was written: its run goes on where the last one stopped
   unit_carried : (x : Sending) (a : Adjustment) (l : ℕ) → Ready s x.state.offset (length (box x.number)) (length (box (x.number + 1))) l
-      → Carried x a (record { made = record { answer = Done; ended = ended_by a x.state.offset; state = unit_source_after s a x.state }; unit = unit_sent s a x.state.offset (box x.number) (box (x.number + 1)) })
+      → Carried x a (record { made = record { answer = Ok tt; ended = ended_by a x.state.offset; state = unit_source_after s a x.state }; unit = unit_sent s a x.state.offset (box x.number) (box (x.number + 1)) })
   unfolding share_in unit_source_after
   unit_carried x a l r =
       let v = x.state.offset in
@@ -121,7 +120,7 @@ module _ (s : Shape) (f : Fit s) (box : ℕ → List ℕ) where
       }
 
   -- a refused call: no unit, and all as it was
-  refused_carried : (x : Sending) (a : Adjustment) (y : Refusal) → Carried x a (record { made = record { answer = Refused y; ended = 0; state = x.state }; unit = x.unit })
+  refused_carried : (x : Sending) (a : Adjustment) (y : Refusal) → Carried x a (record { made = record { answer = Err y; ended = 0; state = x.state }; unit = x.unit })
   unfolding share_in joined
   refused_carried x a y = record { bytes = append-nil (under_way s box x) ∙ rw add-zero; whole = sym (zero-mul s.size) }
 
@@ -134,10 +133,10 @@ module _ (s : Shape) (f : Fit s) (box : ℕ → List ℕ) where
       c : List ℕ
       c = box (x.number + 1)
 
-      go : (r : Answer) → answer_of (make_faults s x.state a (length b) (length c) (length x.unit)) ≡ r → Carried x a (unit_source_called s box x a)
-      go Done e =
+      go : (r : Result ⊤ Refusal) → answer_of (make_faults s x.state a (length b) (length c) (length x.unit)) ≡ r → Carried x a (unit_source_called s box x a)
+      go (Ok tt) e =
           rw (source_done s x.state a b c x.unit e) (unit_carried x a (length x.unit) (makable s x.state a (length b) (length c) (length x.unit) e).ready)
-      go (Refused y) e = rw (source_refused s x.state a b c x.unit y e) (refused_carried x a y)
+      go (Err y) e = rw (source_refused s x.state a b c x.unit y e) (refused_carried x a y)
 
   -- ---- THE STREAM
 

@@ -8,7 +8,7 @@ use lib.Dec.{eqb, ltb}
 use lib.ListN.{length, length-append, length-take, length-drop}
 use borrow.Author.Tests.{ltb-false, le-ltb, eq-eqb}
 use Rattle.refusals.specs.declared.Refusal.TheVariants as wrong
-use Rattle.refusals.specs.declared.Answer.TheVariants.{Done}
+use Rattle.std.specs.Prelude.{Ok}
 use Rattle.shape.specs.Shape.{Fit, unit_length, run_from, ended_by}
 use Rattle.shape.specs.declared.Shape.{Shape}
 use Rattle.shape.specs.declared.Adjustment.{Adjustment}
@@ -51,7 +51,7 @@ module _ (s : Shape) (f : Fit s) (box : ℕ → List ℕ) where
 
   -- a call whose adjustment does not come too soon is done
   pub call_done : (x : Sending) (a : Adjustment) → Fine s box x → (adjusts a && ltb x.state.wait 3) ≡ false
-      → unit_source_called s box x a ≡ record { made = record { answer = Done; ended = ended_by a x.state.offset; state = unit_source_after s a x.state }; unit = unit_sent s a x.state.offset (box x.number) (box (x.number + 1)) }
+      → unit_source_called s box x a ≡ record { made = record { answer = Ok tt; ended = ended_by a x.state.offset; state = unit_source_after s a x.state }; unit = unit_sent s a x.state.offset (box x.number) (box (x.number + 1)) }
   call_done x a h e =
       let ready : Ready s x.state.offset (length (box x.number)) (length (box (x.number + 1))) (length x.unit) = record { offset_low = h.offset_low; current_is = h.full x.number; next_is = h.full (x.number + 1); unit_is = h.unit_is } in
       source_done s x.state a (box x.number) (box (x.number + 1)) x.unit

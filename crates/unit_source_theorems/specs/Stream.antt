@@ -1,22 +1,20 @@
 -- What the units of a source carry, call after call: the theorems about its stream speak of this.
-use Rattle.std.specs.Prelude.{ℕ, zero, suc, ◌+◌, ◌*◌, ◌≤◌, Bool, true, false, ◌&&◌, not, ltb, List, [], ◌∷◌, ◌++◌, length, take, drop}
-use Rattle.refusals.specs.declared.Answer.{Answer}
-use Rattle.refusals.specs.declared.Answer.TheVariants.{Done, Refused}
+use Rattle.std.specs.Prelude.{ℕ, zero, suc, ◌+◌, ◌*◌, ◌≤◌, Bool, true, false, ◌&&◌, not, ltb, List, [], ◌∷◌, ◌++◌, length, take, drop, Result, Ok, Err, ⊤}
 use Rattle.shape.specs.Shape.{held_count, run_from}
 use Rattle.shape.specs.declared.Shape.{Shape}
 use Rattle.shape.specs.declared.Adjustment.{Adjustment}
 use Rattle.unit_source.specs.Source.{adjusts, source_wait_after}
 use Rattle.unit_source_theorems.specs.Sending.{Sending, unit_source_called, sending_after}
 
-unfoldable pub is_done : Answer → Bool
-is_done Done = true
-is_done (Refused x) = false
+unfoldable pub is_done : Result ⊤ Refusal → Bool
+is_done (Ok tt) = true
+is_done (Err x) = false
 
 module _ (s : Shape) (box : ℕ → List ℕ) where
   -- a unit's share: the container bytes in it, from where its run begins to its end
-  unfoldable pub share_in : Adjustment → Answer → List ℕ → List ℕ
-  share_in a Done unit = drop (run_from s.step a) unit
-  share_in a (Refused x) unit = []
+  unfoldable pub share_in : Adjustment → Result ⊤ Refusal → List ℕ → List ℕ
+  share_in a (Ok tt) unit = drop (run_from s.step a) unit
+  share_in a (Err x) unit = []
 
   abbrev pub share : Sending → Adjustment → List ℕ
   share x a = share_in a (unit_source_called s box x a).made.answer (unit_source_called s box x a).unit

@@ -9,11 +9,11 @@ loop-m-init c = search find_start
 pub record_at-r-requires : goal.record_at-r-requires
 record_at-r-requires c = search record_within
 
-pub returns-then-circuit-number : goal.returns-then-circuit-number
-returns-then-circuit-number c = search find_hit
+pub returns-then-from-number : goal.returns-then-from-number
+returns-then-from-number c = search find_hit
 
 pub loop-m-preserved : goal.loop-m-preserved
-loop-m-preserved c = search (find_turn, c.if-circuit-number.false)
+loop-m-preserved c = search (find_turn, c.if-from-number.false)
 
 pub returns : goal.returns
 returns c = search find_end

@@ -2,8 +2,8 @@
 use Rattle.container_source.proofs.SourceLaws.{send_refused, sent_place, sent_violations, sent_payload, sent_container, next_fits, send_done}
 use Rattle.container_source.proofs.send.Goals as goal
 
-pub returns-in-Refused : goal.returns-in-Refused
-returns-in-Refused c = search send_refused
+pub returns-in-Err : goal.returns-in-Err
+returns-in-Err c = search send_refused
 
 pub overhead-o-requires : goal.overhead-o-requires
 overhead-o-requires c = search (sent_place, sent_violations)

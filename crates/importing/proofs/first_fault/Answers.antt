@@ -13,8 +13,8 @@ behind-next-requires c = omega arith
 pub overflow_add-result : goal.overflow_add-result
 overflow_add-result c = omega arith
 
-pub returns-in-Wrong : goal.returns-in-Wrong
-returns-in-Wrong c = search fault_hit fits 20000
+pub returns-in-Err : goal.returns-in-Err
+returns-in-Err c = search fault_hit fits 20000
 
 pub overflow_add-k : goal.overflow_add-k
 overflow_add-k c = omega arith

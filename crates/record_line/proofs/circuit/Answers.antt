@@ -3,4 +3,4 @@ use Rattle.record_line.proofs.Writing.{circuit_short}
 use Rattle.record_line.proofs.circuit.Goals as goal
 
 pub returns : goal.returns
-returns c = search (circuit_short, c.shared_slice_known-1.given 2, c.shared_slice_known-1.given 3)
+returns c = circuit_short _ _ _ c.from.ensures c.circuit.ensures c.circuit.type_inv

@@ -3,9 +3,9 @@ use Rattle.refusals.specs.Refusals.{answer_number}
 use Rattle.refusals.proofs.Wrong.{number_refused}
 use Rattle.refusals.proofs.number.Goals as goal
 
-pub returns-in-Done : goal.returns-in-Done
+pub returns-in-Ok : goal.returns-in-Ok
 unfolding answer_number
-returns-in-Done c = simp c.in-Done.is
+returns-in-Ok c = simp c.in-Ok.is
 
-pub returns-in-Refused : goal.returns-in-Refused
-returns-in-Refused c = search number_refused
+pub returns-in-Err : goal.returns-in-Err
+returns-in-Err c = search number_refused

@@ -3,10 +3,10 @@ use Rattle.refusals.specs.Refusals.{answer_places, answer_place}
 use Rattle.refusals.proofs.Cases.{answer_place_as}
 use Rattle.refusals.proofs.place.Goals as goal
 
-pub returns-in-Done : goal.returns-in-Done
+pub returns-in-Ok : goal.returns-in-Ok
 unfolding answer_places answer_place
-returns-in-Done c = search answer_place_as
+returns-in-Ok c = search answer_place_as
 
-pub returns-in-Refused : goal.returns-in-Refused
+pub returns-in-Err : goal.returns-in-Err
 unfolding answer_places answer_place
-returns-in-Refused c = search answer_place_as
+returns-in-Err c = search answer_place_as

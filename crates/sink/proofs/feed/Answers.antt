@@ -2,8 +2,8 @@
 use Rattle.sink.proofs.Feeds.{feed_refused, word_there, feed_pointed, feed_done}
 use Rattle.sink.proofs.feed.Goals as goal
 
-pub returns-in-Refused : goal.returns-in-Refused
-returns-in-Refused c = search feed_refused
+pub returns-in-Err : goal.returns-in-Err
+returns-in-Err c = search feed_refused
 
 pub point-a-requires : goal.point-a-requires
 point-a-requires c = search word_there
@@ -16,5 +16,5 @@ pub returns : goal.returns
 returns c =
     let a = c.args in
     let l = c.take_unit-u in
-    feed_done a.shape a.s a.e a.unit.now a.held.now a.done.now c.answer.result c.answer.ensures c.in-Done.is
+    feed_done a.shape a.s a.e a.unit.now a.held.now a.done.now c.answer.result c.answer.ensures c.in-Ok.is
     c.point-a.result c.point-a.ensures l.result l.new.held l.new.done c.tell.result l.ensures c.tell.ensures

@@ -2,8 +2,8 @@
 use Rattle.unit_source.proofs.Answers.{made_ready, made_refused, made_done}
 use Rattle.unit_source.proofs.make.Goals as goal
 
-pub returns-in-Refused : goal.returns-in-Refused
-returns-in-Refused c = search made_refused
+pub returns-in-Err : goal.returns-in-Err
+returns-in-Err c = search made_refused
 
 pub write-requires : goal.write-requires
 write-requires c = search made_ready

@@ -11,8 +11,8 @@ returns-then-circuit_refused c = search fault_circuit
 pub returns-then-label_refused : goal.returns-then-label_refused
 returns-then-label_refused c = search fault_label fits 20000
 
-pub returns-in-Wrong : goal.returns-in-Wrong
-returns-in-Wrong c = search fault_trace fits 20000
+pub returns-in-Err : goal.returns-in-Err
+returns-in-Err c = search fault_trace fits 20000
 
 pub returns-then-flags-gt15 : goal.returns-then-flags-gt15
 returns-then-flags-gt15 c = search fault_flags fits 20000
