@@ -43,9 +43,6 @@ module _ (form : Form) (t : List ℕ) (u : Writer) (l : length t ≡ 15) (h : Ha
 -- ---- a record's line
 
 module _ (form : Form) (r : List ℕ) (n label : ℕ) (s : Short 5 (circuit_in r) n) (is-label : label ≡ label_in r) (t u v w : Writer) (h : HasRoom 8 t) where
-  pub number_fits : HasRoom (length (decimal_of n)) t
-  number_fits = omega (arith, s.short)
-
   pub number_and_label_lem : Wrote (decimal_of n) t u → Wrote (form.between ∷ []) u v → Wrote (hex_of label) v w → WroteWithin 8 (number_and_label form r) t w
   unfolding number_and_label
   number_and_label_lem x y z =

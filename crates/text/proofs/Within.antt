@@ -5,7 +5,7 @@ use Prim.Native.Nat.{ℕ, ◌+◌, ◌<◌, ◌≤◌}
 use native.Mathlib.Omega.{arith}
 use lib.ListN.{length, length-append}
 use Rattle.text.specs.Text.{decimal_of}
-use Rattle.text.specs.Inner.{Short, Within}
+use Rattle.text.specs.Inner.{Written, Short, Within}
 use Rattle.text.specs.declared.Writer.{Writer}
 use Rattle.text.specs.Writing.{HasRoom, Wrote, WroteWithin}
 use Rattle.text.proofs.Digits.{length_decimal}
@@ -33,6 +33,9 @@ within_then {j = j} {k = k} {p = p} {q = q} {u = u} {v = v} {w = w} x y h =
     within (j + k) (wrote_then p q u v w (omega (arith, x.short, x.next_is)) (unbound x) (unbound y)) (simp length-append (omega (arith, x.short, x.next_is, y.short, y.next_is)))
 
 -- a writer that began at the start of a buffer has written so far
+pub begun : (p b : List ℕ) (u w : Writer) → u.out.now ≡ b → u.at ≡ 0 → Wrote p u w → Written 0 p b w.out.now w.at
+begun p b u w held start x = rw (← held, ← start) (written x)
+
 pub begun_within : (k : ℕ) (p b : List ℕ) (u w : Writer) → u.out.now ≡ b → u.at ≡ 0 → WroteWithin k p u w → Within k 0 p b w.out.now w.at
 begun_within k p b u w held start x = rw (← held, ← start) (record { written = written (unbound x); short = x.short })
 
