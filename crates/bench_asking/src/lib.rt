@@ -3,26 +3,22 @@
 
 use bench_say::Output;
 use bench_script::least;
-use catalogue::{Checked, Found};
-use exporting::Exported;
-use importing::Imported;
 use records::Refusal;
 
 fn say_refusal<P: Print>(out: &mut Output<P>, what: &[u8], x: Refusal) {
-    let places = records::named(x);
-    bench_say::refusal(out, what, records::number(x), places.first, places.second);
+    let (first, second) = x.places().numbers();
+    bench_say::refusal(out, what, x.number(), first, second);
 }
 
 // `cat`
 fn check<P: Print>(out: &mut Output<P>, s: &[u8]) {
     let c = catalogue::check(s);
-    let checked = c.checked;
-    match checked {
-        Checked::Good(n) => {
+    match c.checked {
+        Ok(n) => {
             bench_say::text(out, b"cat ok ");
             bench_say::decimal(out, n as u64);
         }
-        Checked::Refused(x) => {
+        Err(x) => {
             say_refusal(out, b"cat refused ", x);
         }
     }
@@ -33,19 +29,16 @@ fn check<P: Print>(out: &mut Output<P>, s: &[u8]) {
 
 // `lookup`
 fn look_up<P: Print>(out: &mut Output<P>, number: u32, s: &[u8]) {
-    let l = catalogue::lookup(s, number);
-    let found = l.found;
-    let characters = l.trace;
-    match found {
-        Found::Entry(label, flags) => {
+    match catalogue::lookup(s, number) {
+        Ok(e) => {
             bench_say::text(out, b"found ");
-            bench_say::hex(out, label);
+            bench_say::hex(out, e.label);
             bench_say::text(out, b" ");
-            bench_say::all(out, &characters);
+            bench_say::all(out, &e.trace);
             bench_say::text(out, b" ");
-            bench_say::decimal(out, flags as u64);
+            bench_say::decimal(out, e.flags as u64);
         }
-        Found::Not(x) => {
+        Err(x) => {
             say_refusal(out, b"lookup refused ", x);
         }
     }
@@ -73,19 +66,13 @@ fn say_bytes<P: Print>(out: &mut Output<P>, what: &[u8], s: &[u8]) {
 fn import<P: Print>(out: &mut Output<P>, s: &[u8]) {
     let mut made = [0u8; 10752];
     match importing::import(s, &mut made) {
-        Imported::Good(k) => {
+        Ok(k) => {
             let n = 21 * k;
             say_bytes(out, b"import ok", &made[..n]);
         }
-        Imported::Refused(x) => {
-            let places = sheet_refusals::named(x);
-            bench_say::refused(
-                out,
-                b"import refused ",
-                sheet_refusals::number(x),
-                places.first,
-                places.second,
-            );
+        Err(x) => {
+            let (first, second) = x.places().numbers();
+            bench_say::refused(out, b"import refused ", x.number(), first, second);
         }
     }
 }
@@ -94,10 +81,10 @@ fn import<P: Print>(out: &mut Output<P>, s: &[u8]) {
 fn export<P: Print>(out: &mut Output<P>, s: &[u8]) {
     let mut made = [0u8; 23552];
     match exporting::export(s, &mut made) {
-        Exported::Text(n) => {
+        Ok(n) => {
             say_bytes(out, b"export ok", &made[..n]);
         }
-        Exported::Not(x) => {
+        Err(x) => {
             say_refusal(out, b"export refused ", x);
             bench_say::text(out, b"\n");
         }

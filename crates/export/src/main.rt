@@ -1,23 +1,14 @@
 // Exports a catalogue from standard input as comma-separated text; for a refused catalogue it prints the one line of its refusal.
 #![tactic(auto)]
 
-use exporting::Exported;
-
 fn export(out: &impl Print, errors: &impl Print, s: &[u8]) {
     let mut text = [0u8; 23552];
     match exporting::export(s, &mut text) {
-        Exported::Text(n) => {
+        Ok(n) => {
             programs::print(out, errors, b"export", &text[..n]);
         }
-        Exported::Not(x) => {
-            programs::refuse(
-                out,
-                errors,
-                b"export",
-                b"record",
-                records::number(x),
-                records::named(x),
-            );
+        Err(x) => {
+            programs::refuse(out, errors, b"export", b"record", x.number(), x.places());
         }
     }
 }

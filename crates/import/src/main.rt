@@ -1,7 +1,6 @@
 // Imports comma-separated text from standard input: prints the catalogue, or for a refused text the one line of its refusal.
 #![tactic(auto)]
 
-use importing::Imported;
 use sheet_refusals::Refusal;
 use std::io::Read;
 
@@ -57,24 +56,17 @@ fn read_rest<R: Read>(start: Lines, input: &mut R) -> Lines {
 }
 
 fn refuse(out: &impl Print, errors: &impl Print, x: Refusal) {
-    programs::refuse(
-        out,
-        errors,
-        b"import",
-        b"line",
-        sheet_refusals::number(x),
-        sheet_refusals::named(x),
-    );
+    programs::refuse(out, errors, b"import", b"line", x.number(), x.places());
 }
 
 fn import(out: &impl Print, errors: &impl Print, s: &[u8]) {
     let mut catalogue = [0u8; 10752];
     match importing::import(s, &mut catalogue) {
-        Imported::Good(k) => {
+        Ok(k) => {
             let n = 21 * k;
             programs::print(out, errors, b"import", &catalogue[..n]);
         }
-        Imported::Refused(x) => {
+        Err(x) => {
             refuse(out, errors, x);
         }
     }

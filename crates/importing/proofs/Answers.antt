@@ -28,7 +28,7 @@ use Rattle.sheet_line.specs.declared.LineFault.{LineFault}
 use Rattle.sheet_line.proofs.Ways.{line_says, line_numbered}
 use Rattle.importing.specs.Import.{Cut, lines_of, most_lines, faults_from, import_faults, first_of, import_answer, imported_says, result_of, import_of, left_by, Imports}
 use Rattle.importing.specs.Inner.{Sounds, checked_as, Made}
-use Rattle.sheet_refusals.specs.Refusals.{import_number, import_places, import_says}
+use Rattle.sheet_refusals.specs.Refusals.{import_says}
 use Rattle.sheet_refusals.specs.declared.Refusal.{Refusal}
 use Rattle.sheet_refusals.specs.declared.Refusal.TheVariants.{TooMany, Line, Catalogue}
 use Rattle.importing.proofs.Faulty.{first_both, first_none}

@@ -6,17 +6,16 @@ ghost use Rattle.std.specs.Prelude.{◌≡◌, ◌+◌, ◌*◌, ◌%◌, cond, 
 ghost use Rattle.trace_message.specs.Message.{start_byte};
 ghost use Rattle.word.specs.Word.{plain_word, inverted_word, inverted};
 ghost use Rattle.records.specs.Record.{old_kind};
+ghost use Rattle.records.specs.Refusals.{places_in};
 ghost use Rattle.catalogue.specs.Catalogue.{check_of, counted_of, lookup_of};
 ghost use Rattle.listing.specs.Listing.{Listed};
 ghost use Rattle.importing.specs.Import.{import_of, result_of, left_by};
 ghost use Rattle.copier.specs.Put.{put};
 ghost use Rattle.exporting.specs.Export.{export_of, export_answer};
-ghost use Rattle.probe.specs.Probe.{packed, packed_checked, packed_check, packed_found, packed_imported, packed_exported};
+ghost use Rattle.probe.specs.Probe.{packed_at, packed, packed_checked, packed_check, packed_found, characters_found, packed_imported, packed_exported};
 
-use catalogue::{Checked, Found};
-use exporting::Exported;
-use importing::Imported;
-use records::{PlaceList, Refusal};
+use catalogue::Entry;
+use records::{Places, Refusal};
 
 // The whole of `src` to `dst` where they are as long; else nothing.
 pub fn probe_copy(src: &[u8], dst: &mut [u8]) -> bool
@@ -57,37 +56,32 @@ pub fn probe_inverted(places: u16, w: u16, offset: u16) -> u32
     word::inverted_at(places, w, offset)
 }
 
-fn wide(x: usize) -> u64
-    ensures { result ≡ x }
+fn pack(number: u8, places: Places) -> u64
+    ensures { result ≡ packed_at number (places_in places) }
 {
-    x as u64
-}
-
-fn pack(number: u8, places: PlaceList) -> u64
-    ensures { result ≡ number * 4294967296 + places.first % 65536 * 65536 + places.second % 65536 }
-{
-    number as u64 * 4294967296 + wide(places.first) % 65536 * 65536 + wide(places.second) % 65536
+    let (first, second) = places.numbers();
+    u64::from(number) * 4294967296 + first as u64 % 65536 * 65536 + second as u64 % 65536
 }
 
 fn pack_refusal(x: Refusal) -> u64
     ensures { result ≡ packed x }
 {
-    pack(records::number(x), records::named(x))
+    pack(x.number(), x.places())
 }
 
 // How many pairs were compared, above the number of an answer.
 fn with_pairs(pairs: usize, checked: u64) -> u64
     ensures { result ≡ pairs % 16777216 * 1099511627776 + checked % 1099511627776 }
 {
-    wide(pairs) % 16777216 * 1099511627776 + checked % 1099511627776
+    pairs as u64 % 16777216 * 1099511627776 + checked % 1099511627776
 }
 
-fn pack_checked(c: Checked) -> u64
+fn pack_checked(c: Result<usize, Refusal>) -> u64
     ensures { result ≡ packed_checked c }
 {
     match c {
-        Checked::Good(n) => wide(n),
-        Checked::Refused(x) => pack_refusal(x),
+        Ok(n) => n as u64,
+        Err(x) => pack_refusal(x),
     }
 }
 
@@ -96,27 +90,33 @@ pub fn probe_check(s: &[u8]) -> u64
     ensures { result ≡ packed_check (counted_of old_kind s.now) }
 {
     let c = catalogue::check(s);
-    let checked = c.checked;
-    with_pairs(c.pairs, pack_checked(checked))
+    with_pairs(c.pairs, pack_checked(c.checked))
 }
 
-fn pack_found(f: Found) -> u64
+fn pack_found(f: Result<Entry, Refusal>) -> u64
     ensures { result ≡ packed_found f }
 {
     match f {
-        Found::Entry(label, flags) => label as u64 * 256 + flags as u64,
-        Found::Not(x) => pack_refusal(x),
+        Ok(e) => u64::from(e.label) * 256 + u64::from(e.flags),
+        Err(x) => pack_refusal(x),
+    }
+}
+
+fn characters_found(f: Result<Entry, Refusal>) -> [u8; 15]
+    ensures { result ≡ characters_found f }
+{
+    match f {
+        Ok(e) => e.trace,
+        Err(_) => [0u8; 15],
     }
 }
 
 // The lookup of a circuit in a catalogue, with the characters of its trace.
 pub fn probe_lookup(s: &[u8], number: u32, characters: &mut [u8; 15]) -> u64
-    ensures { (result ≡ packed_found (lookup_of old_kind s.now number).found) × (characters.new ≡ (lookup_of old_kind s.now number).trace) }
+    ensures { (result ≡ packed_found (lookup_of old_kind s.now number)) × (characters.new ≡ characters_found (lookup_of old_kind s.now number)) }
 {
-    let l = catalogue::lookup(s, number);
-    let t = l.trace;
-    *characters = t;
-    let f = l.found;
+    let f = catalogue::lookup(s, number);
+    *characters = characters_found(f);
     pack_found(f)
 }
 
@@ -127,12 +127,12 @@ pub fn probe_list(s: &[u8], text: &mut [u8; 15898]) -> usize
     listing::list(s, text)
 }
 
-fn pack_imported(i: Imported) -> u64
+fn pack_imported(i: Result<usize, sheet_refusals::Refusal>) -> u64
     ensures { result ≡ packed_imported i }
 {
     match i {
-        Imported::Good(n) => wide(n),
-        Imported::Refused(x) => pack(sheet_refusals::number(x), sheet_refusals::named(x)),
+        Ok(n) => n as u64,
+        Err(x) => pack(x.number(), x.places()),
     }
 }
 
@@ -140,16 +140,15 @@ fn pack_imported(i: Imported) -> u64
 pub fn probe_import(s: &[u8], catalogue: &mut [u8; 10752]) -> u64
     ensures { (result ≡ packed_imported (import_of s.now)) × (catalogue.new ≡ left_by (import_of s.now) (result_of s.now) catalogue.old) }
 {
-    let i = importing::import(s, catalogue);
-    pack_imported(i)
+    pack_imported(importing::import(s, catalogue))
 }
 
-fn pack_exported(e: Exported) -> u64
+fn pack_exported(e: Result<usize, Refusal>) -> u64
     ensures { result ≡ packed_exported e }
 {
     match e {
-        Exported::Text(n) => wide(n),
-        Exported::Not(x) => pack_refusal(x),
+        Ok(n) => n as u64,
+        Err(x) => pack_refusal(x),
     }
 }
 
@@ -157,6 +156,5 @@ fn pack_exported(e: Exported) -> u64
 pub fn probe_export(s: &[u8], text: &mut [u8; 23552]) -> u64
     ensures { (result ≡ packed_exported (export_answer (length (export_of s.now)) (check_of old_kind s.now))) × (text.new ≡ put 0 (export_of s.now) text.old) }
 {
-    let e = exporting::export(s, text);
-    pack_exported(e)
+    pack_exported(exporting::export(s, text))
 }

@@ -10,7 +10,7 @@ ghost use Rattle.listing.specs.Listing.{Listed};
 ghost use Rattle.importing.specs.Import.{import_of, result_of, left_by};
 ghost use Rattle.copier.specs.Put.{put};
 ghost use Rattle.exporting.specs.Export.{export_of, export_answer};
-ghost use Rattle.probe.specs.Probe.{packed_check, packed_found, packed_imported, packed_exported};
+ghost use Rattle.probe.specs.Probe.{packed_check, packed_found, characters_found, packed_imported, packed_exported};
 
 #[unsafe(no_mangle)]
 pub extern "C" fn probe_copy(src: &[u8], dst: &mut [u8]) -> bool
@@ -56,7 +56,7 @@ pub extern "C" fn probe_check(s: &[u8]) -> u64
 
 #[unsafe(no_mangle)]
 pub extern "C" fn probe_lookup(s: &[u8], number: u32, characters: &mut [u8; 15]) -> u64
-    ensures { (result ≡ packed_found (lookup_of old_kind s.now number).found) × (characters.new ≡ (lookup_of old_kind s.now number).trace) }
+    ensures { (result ≡ packed_found (lookup_of old_kind s.now number)) × (characters.new ≡ characters_found (lookup_of old_kind s.now number)) }
 {
     probe::probe_lookup(s, number, characters)
 }

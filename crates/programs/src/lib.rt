@@ -4,7 +4,7 @@
 
 ghost use Rattle.std.specs.Prelude.{◌≤◌, length};
 
-use records::PlaceList;
+use records::Places;
 use std::env::{Env, FillError};
 use std::io::{ErrorKind, Read};
 
@@ -105,23 +105,29 @@ fn say_place(errors: &impl Print, what: &[u8], p: usize) {
 }
 
 // Where: the line or the record, if there is one, and the character, if it is one.
-fn say_where(errors: &impl Print, what: &[u8], number: u8, p: PlaceList) {
-    if p.count == 0 {
-        return;
-    }
-    say_place(errors, what, p.first);
-    if (1 < p.count) & (number != 13) {
-        say_place(errors, b", character", p.second);
+fn say_where(errors: &impl Print, what: &[u8], number: u8, p: Places) {
+    match p {
+        Places::Nowhere => {
+            return;
+        }
+        Places::One(first) => say_place(errors, what, first),
+        Places::Two(first, second) => {
+            say_place(errors, what, first);
+            if number != 13 {
+                say_place(errors, b", character", second);
+            }
+        }
     }
     complain(errors, b": ");
 }
 
 // A refusal in words: where, and what is wrong, with its number; of 13, the first that has the trace.
-fn say_refusal(errors: &impl Print, what: &[u8], number: u8, p: PlaceList) {
+fn say_refusal(errors: &impl Print, what: &[u8], number: u8, p: Places) {
     say_where(errors, what, number, p);
     say_wrong(errors, number);
     if number == 13 {
-        say_place(errors, what, p.second);
+        let (_, second) = p.numbers();
+        say_place(errors, what, second);
     }
     complain(errors, b" (");
     decimal(errors, number as usize);
@@ -135,7 +141,7 @@ pub fn refuse(
     name: &[u8],
     what: &[u8],
     number: u8,
-    p: PlaceList,
+    p: Places,
 ) {
     let mut line = [0u8; 46];
     let n = refusal_line::write(&mut line, number, p);

@@ -7,14 +7,13 @@ use lib.ListN.{length}
 use Rattle.refusals.proofs.Joined.{joined_none, rows_none}
 use Rattle.records.specs.Record.{old_kind}
 use Rattle.catalogue.specs.Catalogue.{check_of}
-use Rattle.catalogue.specs.declared.Checked.TheVariants as checked
+use Rattle.std.specs.Prelude.{Ok}
 use Rattle.sheet_line.specs.Grammar.{Written}
 use Rattle.sheet_line.specs.Line.{number_field, label_field, quoted, characters, flags_field, line_faults}
 use Rattle.sheet_line.specs.declared.LineFault.{LineFault}
 use Rattle.sheet_line.proofs.Ways.{sound, sound_ended}
 use Rattle.importing.specs.Import.{Cut, lines_of, most_lines, faults_from, result_of, import_of}
 use Rattle.sheet_refusals.specs.declared.Refusal.TheVariants.{Line}
-use Rattle.importing.specs.declared.Imported.TheVariants.{Good}
 use Rattle.importing.proofs.Answers.{good_fine}
 use Rattle.sheet_theorems.proofs.Grammar.{accepted_written}
 
@@ -45,9 +44,9 @@ all_proper k (l ∷ ls) e =
 pub record Accepted (s : List ℕ) (n : ℕ) : Type 0 where
   pub few : length (lines_of s) ≤ most_lines
   pub proper : All (lines_of s)
-  pub good : check_of old_kind (result_of s) ≡ checked.Good n
+  pub good : check_of old_kind (result_of s) ≡ Ok n
 
-pub accepted : (s : List ℕ) (n : ℕ) → import_of s ≡ Good n → Accepted s n
+pub accepted : (s : List ℕ) (n : ℕ) → import_of s ≡ Ok n → Accepted s n
 accepted s n e =
     let f = good_fine s n e in
     record { few = f.few_lines; proper = all_proper 0 (lines_of s) f.lines_fine; good = f.catalogue_good }

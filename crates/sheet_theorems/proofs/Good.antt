@@ -17,7 +17,7 @@ use Rattle.records.specs.Record.{old_kind, record_at, marked, circuit_in, label_
 use Rattle.records.specs.Faults.{record_faults, first_fault}
 use Rattle.records.specs.declared.Refusal.TheVariants.{Length, Trace}
 use Rattle.catalogue.specs.Catalogue.{length_refused, faults_from, records, faults_before, visit_of, faults, check_of}
-use Rattle.catalogue.specs.declared.Checked.TheVariants.{Good}
+use Rattle.std.specs.Prelude.{Ok}
 use Rattle.catalogue.proofs.Answers.{good_answer}
 use Rattle.catalogue.proofs.Scan.{first_none}
 use Rattle.sheet_theorems.proofs.Record.{Fair}
@@ -27,14 +27,14 @@ abbrev pub Bytes : List ℕ → Type 0
 Bytes s = (i : ℕ) → get_or s i 0 < 256
 
 -- nothing is wrong with a good catalogue, and it says how many records it has
-pub good_none : (s : List ℕ) (n : ℕ) → check_of old_kind s ≡ Good n → (faults old_kind s ≡ []) × (records old_kind s ≡ n)
+pub good_none : (s : List ℕ) (n : ℕ) → check_of old_kind s ≡ Ok n → (faults old_kind s ≡ []) × (records old_kind s ≡ n)
 unfolding check_of
 good_none s n e =
     let g = good_answer (records old_kind s) n (first_fault (faults old_kind s)) e in
     (first_none (faults old_kind s) g.0, g.1)
 
 -- so nothing is wrong with its records
-pub good_faults : (s : List ℕ) (n : ℕ) → check_of old_kind s ≡ Good n → faults_from old_kind s 0 n ≡ []
+pub good_faults : (s : List ℕ) (n : ℕ) → check_of old_kind s ≡ Ok n → faults_from old_kind s 0 n ≡ []
 unfolding faults faults_before
 good_faults s n e =
     let g = good_none s n e in

@@ -15,7 +15,7 @@ use Rattle.quotes.proofs.Doubling.{in_doubled, behind_doubled}
 use Rattle.sheet_line.specs.Line.{number_field, label_field, trace_on, quoted, characters, behind_comma, flags_field, well_formed, line_faults, line_judged}
 use Rattle.sheet_line.specs.Inner.{Sound}
 use Rattle.sheet_line.specs.declared.LineFault.TheVariants.{Unquoted, Long}
-use Rattle.sheet_line.specs.declared.LineAnswer.TheVariants.{Wrong}
+use Rattle.std.specs.Prelude.{Err}
 use Rattle.sheet_line.proofs.Ways.{sound, sound_short, unquoted_refused}
 use Rattle.sheet_line.proofs.Writing.{number_digits, number_some}
 use Rattle.sheet_line.specs.Grammar.{comma, line_with, Written}
@@ -158,7 +158,7 @@ bare (x ∷ field) flags e = e
 -- all is well formed but the trace, which opens without a quote and "runs to the next comma": 16, whatever stands in it
 pub unquoted_16 : (number label field flags : List ℕ) → is_number 4 number ≡ true → is_label label ≡ true → opens quote field ≡ false → lacks comma field ≡ true
     → is_number 2 flags ≡ true → length (number ++ (comma ∷ (label ++ (comma ∷ (field ++ (comma ∷ flags)))))) ≤ 80
-    → line_judged (line_faults true (number ++ (comma ∷ (label ++ (comma ∷ (field ++ (comma ∷ flags))))))) ≡ Wrong Unquoted
+    → line_judged (line_faults true (number ++ (comma ∷ (label ++ (comma ∷ (field ++ (comma ∷ flags))))))) ≡ Err Unquoted
 unfolding line_faults well_formed flags_field quoted due line_judged
 unquoted_16 number label field flags n l q c f k =
     let rest = field ++ (comma ∷ flags) in
@@ -177,7 +177,7 @@ unquoted_16 number label field flags n l q c f k =
 
 -- written so, but with a trace of more than 15 characters, doubled quotes made one: 17
 pub long_17 : (number label trace flags : List ℕ) → is_number 4 number ≡ true → is_label label ≡ true → is_number 2 flags ≡ true → 15 < length trace
-    → length (line_with number label trace flags) ≤ 80 → line_judged (line_faults true (line_with number label trace flags)) ≡ Wrong Long
+    → length (line_with number label trace flags) ≤ 80 → line_judged (line_faults true (line_with number label trace flags)) ≡ Err Long
 unfolding line_faults well_formed due line_judged
 long_17 number label trace flags n l f h k =
     rw (

@@ -13,13 +13,11 @@ use Rattle.split.specs.Split.{up_to}
 use Rattle.sheet_line.specs.Line.{well_formed, line_faults, line_judged}
 use Rattle.sheet_line.specs.declared.LineFault.{LineFault}
 use Rattle.sheet_line.specs.declared.LineFault.TheVariants.{Malformed}
-use Rattle.sheet_line.specs.declared.LineAnswer.TheVariants.{Wrong}
+use Rattle.std.specs.Prelude.{Err}
 use Rattle.sheet_line.proofs.Ways.{wrong_malformed, sound_short}
 use Rattle.importing.specs.Import.{lf, Cut, cut, onto, lines_of, most_lines, faults_from, import_faults, first_of, import_answer, import_of}
 use Rattle.sheet_refusals.specs.declared.Refusal.{Refusal}
 use Rattle.sheet_refusals.specs.declared.Refusal.TheVariants.{TooMany, Line}
-use Rattle.importing.specs.declared.First.TheVariants.{Of}
-use Rattle.importing.specs.declared.Imported.TheVariants.{Refused}
 use Rattle.importing.proofs.Walk.{next_of, lines_at}
 use Rattle.importing.proofs.Faulty.{first_both, first_hit, first_rest}
 
@@ -63,17 +61,17 @@ lines_grow (b ∷ s) t = go (eqb b lf) (lines_grow s t)
 
 record Both (k : ℕ) (ls ms : List Cut) : Type 0 where
   why : Refusal
-  first_l : first_of (faults_from k ls) ≡ Of why
-  first_m : first_of (faults_from k ms) ≡ Of why
+  first_l : first_of (faults_from k ls) ≡ Err why
+  first_m : first_of (faults_from k ms) ≡ Err why
 
 abbrev judged : Bool → List ℕ → LineFault → Type 0
-judged ended s x = line_judged (line_faults ended s) ≡ Wrong x
+judged ended s x = line_judged (line_faults ended s) ≡ Err x
 
-faulty : (k : ℕ) (ended : Bool) (s : List ℕ) (ls : List Cut) (x : LineFault) → judged ended s x → first_of (faults_from k (cut s ended ∷ ls)) ≡ Of (Line x (k + 1))
+faulty : (k : ℕ) (ended : Bool) (s : List ℕ) (ls : List Cut) (x : LineFault) → judged ended s x → first_of (faults_from k (cut s ended ∷ ls)) ≡ Err (Line x (k + 1))
 unfolding faults_from
 faulty k ended s ls x e = first_hit (line_faults ended s) (faults_from (k + 1) ls) (k + 1) x e
 
-fine : (k : ℕ) (s : List ℕ) (ls : List Cut) (x : Refusal) → line_faults true s ≡ [] → first_of (faults_from (k + 1) ls) ≡ Of x → first_of (faults_from k (cut s true ∷ ls)) ≡ Of x
+fine : (k : ℕ) (s : List ℕ) (ls : List Cut) (x : Refusal) → line_faults true s ≡ [] → first_of (faults_from (k + 1) ls) ≡ Err x → first_of (faults_from k (cut s true ∷ ls)) ≡ Err x
 unfolding faults_from line_judged
 fine k s ls x e f = first_rest (line_faults true s) (faults_from (k + 1) ls) (k + 1) (ap line_judged e) ∙ f
 
@@ -86,7 +84,7 @@ too_long true s h = rw (lt-leb (length s) 80 h)
 too_long false s h = refl
 
 -- a text whose first line is too long
-long_line : (k : ℕ) (s : List ℕ) → 0 < length s → 80 < length (up_to lf s) → first_of (faults_from k (lines_of s)) ≡ Of (Line Malformed (k + 1))
+long_line : (k : ℕ) (s : List ℕ) → 0 < length s → 80 < length (up_to lf s) → first_of (faults_from k (lines_of s)) ≡ Err (Line Malformed (k + 1))
 long_line k s h l =
     let ended = leb (next_of s 0) (length s) in
     ap (λ (ls : List Cut). first_of (faults_from k ls)) (lines_at s 0 h)
@@ -164,18 +162,18 @@ same_first (suc m) k head rest long few = go (ltb (length (up_to lf head)) (leng
 abbrev pub enough : ℕ
 enough = 41473
 
-few_refused : (s : List ℕ) (x : Refusal) → length (lines_of s) ≤ most_lines → first_of (faults_from 0 (lines_of s)) ≡ Of x → import_of s ≡ Refused x
+few_refused : (s : List ℕ) (x : Refusal) → length (lines_of s) ≤ most_lines → first_of (faults_from 0 (lines_of s)) ≡ Err x → import_of s ≡ Err x
 unfolding import_of import_faults due import_answer
 few_refused s x h e = rw (le-ltb most_lines (length (lines_of s)) h, first_both (faults_from 0 (lines_of s)) _ x e)
 
-pub many_refused : (s : List ℕ) → most_lines < length (lines_of s) → import_of s ≡ Refused TooMany
+pub many_refused : (s : List ℕ) → most_lines < length (lines_of s) → import_of s ≡ Err TooMany
 unfolding import_of import_faults due first_of import_answer
 many_refused s h = rw (lt-ltb most_lines (length (lines_of s)) h)
 
-pub long_text : (head rest : List ℕ) → length head ≡ enough → import_of (head ++ rest) ≡ cond (ltb most_lines (length (lines_of (head ++ rest)))) (Refused TooMany) (import_of head)
+pub long_text : (head rest : List ℕ) → length head ≡ enough → import_of (head ++ rest) ≡ cond (ltb most_lines (length (lines_of (head ++ rest)))) (Err TooMany) (import_of head)
 long_text head rest l = go (ltb most_lines (length (lines_of (head ++ rest)))) refl
   where
-    go : (q : Bool) → ltb most_lines (length (lines_of (head ++ rest))) ≡ q → import_of (head ++ rest) ≡ cond q (Refused TooMany) (import_of head)
+    go : (q : Bool) → ltb most_lines (length (lines_of (head ++ rest))) ≡ q → import_of (head ++ rest) ≡ cond q (Err TooMany) (import_of head)
     go true e = many_refused (head ++ rest) (ltb-true most_lines (length (lines_of (head ++ rest))) e)
     go false e =
         let few = ltb-false most_lines (length (lines_of (head ++ rest))) e in

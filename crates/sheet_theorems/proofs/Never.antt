@@ -13,9 +13,8 @@ use Rattle.digits.proofs.Laws.{digit_range}
 use Rattle.refusals.proofs.Joined.{joined_none}
 use Rattle.records.specs.Record.{old_kind, record_at}
 use Rattle.records.specs.Faults.{record_faults}
-use Rattle.records.proofs.Fields.{old_serves}
+use Rattle.std.specs.Prelude.{Ok}
 use Rattle.catalogue.specs.Catalogue.{faults_from, check_of}
-use Rattle.catalogue.specs.declared.Checked.TheVariants.{Good}
 use Rattle.catalogue.proofs.Answers.{good_length}
 use Rattle.refusal_line.specs.RefusalLine.{blank_before, refusal_line}
 use Rattle.sheet_theorems.proofs.Good.{good_faults, mark_first}
@@ -34,12 +33,12 @@ begins s (suc n) h l e =
     let p = joined_none (record_faults old_kind 1 (record_at old_kind s 0)) (faults_from old_kind s 1 n) e in
     sym (get_or-take 21 s 0 0 (omega arith)) ∙ mark_first 1 (record_at old_kind s 0) p.0
 
-pub never_good : (number : ℕ) (places : List ℕ) (n : ℕ) → check_of old_kind (refusal_line number places) ≡ Good n → ⊥
+pub never_good : (number : ℕ) (places : List ℕ) (n : ℕ) → check_of old_kind (refusal_line number places) ≡ Ok n → ⊥
 unfolding refusal_line
 never_good number places n e =
     let s = decimal_of number ++ (blank_before places ++ (0x0a ∷ [])) in
     let some = decimal_some number in
-    let l = good_length old_kind s n (old_serves old_kind refl) e in
+    let l = good_length old_kind s n e in
     let d = first_digit (decimal_of number) (blank_before places ++ (0x0a ∷ [])) some (digits_decimal number) in
     let b = begins s n (omega (arith, some, length-append (decimal_of number) (blank_before places ++ (0x0a ∷ [])))) l.0 (good_faults s n e) in
     omega (arith, d, b)

@@ -16,10 +16,9 @@ use Rattle.settings.proofs.Passes.{by_characters}
 use Rattle.text.specs.Text.{decimal_of, hex_of}
 use Rattle.records.specs.Record.{old_kind, record_at, circuit_in, label_in, trace_in, flags_in}
 use Rattle.records.specs.Faults.{record_faults}
-use Rattle.records.proofs.Fields.{old_serves}
+use Rattle.std.specs.Prelude.{Ok}
 use Rattle.catalogue.specs.Catalogue as catalogue
 use Rattle.catalogue.specs.Catalogue.{check_of}
-use Rattle.catalogue.specs.declared.Checked.TheVariants as checked
 use Rattle.catalogue.proofs.Answers.{good_length}
 use Rattle.sheet_line.specs.Grammar.{comma}
 use Rattle.quotes.specs.Quotes.{quote, doubled}
@@ -27,7 +26,6 @@ use Rattle.sheet_line.specs.Line.{line_faults, record_of}
 use Rattle.record_line.specs.RecordLine.{number_and_label, characters_of, trace_and_flags, line_of, lines_from}
 use Rattle.exporting.specs.Export.{sheet_form, text_of, export_of}
 use Rattle.importing.specs.Import.{lf, Cut, cut, onto, lines_of, most_lines, faults_from, import_faults, first_of, import_answer, records_of, result_of, import_of}
-use Rattle.importing.specs.declared.Imported.TheVariants.{Good}
 use Rattle.sheet_theorems.proofs.Parts.{lacks, lacks_both, lacks_cons, digits_lack, label_lacks}
 use Rattle.sheet_theorems.proofs.Numbers.{digits_decimal, label_hex}
 use Rattle.sheet_theorems.proofs.Record.{Fair, line_accepted, line_says_lem}
@@ -69,7 +67,7 @@ lines_joined (x ∷ p) t e =
 
 -- nothing is wrong with a text of at most 512 lines, with each of them, and with the catalogue that they say
 good_text : (t : List ℕ) (n : ℕ) (s : List ℕ) → length (lines_of t) ≤ most_lines → faults_from 0 (lines_of t) ≡ [] → records_of (lines_of t) ≡ s → catalogue.faults old_kind s ≡ [] → catalogue.records old_kind s ≡ n
-    → import_of t ≡ Good n
+    → import_of t ≡ Ok n
 unfolding import_of import_faults result_of due rows_at first_of import_answer
 good_text t n s h f r e m = rw (le-ltb most_lines (length (lines_of t)) h, f, r, e, m)
 
@@ -105,13 +103,13 @@ same s k (suc m) j b h e =
 
 -- the text of a good catalogue is imported as good, with as many records, and what it says is the catalogue, byte for byte
 pub record Back (s : List ℕ) (n : ℕ) : Type 0 where
-  pub answer_is : import_of (export_of s) ≡ Good n
+  pub answer_is : import_of (export_of s) ≡ Ok n
   pub bytes_are : result_of (export_of s) ≡ s
 
-pub round_trip : (s : List ℕ) (n : ℕ) → Bytes s → check_of old_kind s ≡ checked.Good n → Back s n
+pub round_trip : (s : List ℕ) (n : ℕ) → Bytes s → check_of old_kind s ≡ Ok n → Back s n
 unfolding export_of text_of result_of
 round_trip s n b e =
-    let l = good_length old_kind s n (old_serves old_kind refl) e in
+    let l = good_length old_kind s n e in
     let text = lines_from sheet_form old_kind s 0 n in
     let i = same s 0 n 0 b (omega (arith, l.0)) (good_faults s n e) in
     let r : records_of (lines_of text) ≡ s = i.says ∙ take_all (21 * n) s (omega (arith, l.0)) in

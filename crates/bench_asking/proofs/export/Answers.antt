@@ -5,5 +5,5 @@ use Rattle.bench_asking.proofs.export.Goals as goal
 pub slice_bounds-made-end : goal.slice_bounds-made-end
 slice_bounds-made-end g c = search text_there
 
-pub slice_bounds-say_bytes-end-in-Text : goal.slice_bounds-say_bytes-end-in-Text
-slice_bounds-say_bytes-end-in-Text g c = search text_part
+pub slice_bounds-say_bytes-end-in- {b} : goal.slice_bounds-say_bytes-end-in- {b}
+slice_bounds-say_bytes-end-in- {b} g c = search text_part

@@ -5,5 +5,5 @@ use Rattle.export.proofs.export.Goals as goal
 pub slice_bounds-text-end : goal.slice_bounds-text-end
 slice_bounds-text-end g c = search text_there
 
-pub slice_bounds-print-end-in-Text : goal.slice_bounds-print-end-in-Text
-slice_bounds-print-end-in-Text g c = search text_part
+pub slice_bounds-print-end-in- {b} : goal.slice_bounds-print-end-in- {b}
+slice_bounds-print-end-in- {b} g c = search text_part

@@ -9,8 +9,8 @@ slice_bounds-b-end c = search made_fits
 pub slice_bounds-check-end : goal.slice_bounds-check-end
 slice_bounds-check-end c = search made_length
 
-pub slice_bounds-b-end-in_ok-k : goal.slice_bounds-b-end-in_ok-k
-slice_bounds-b-end-in_ok-k c = search made_fits
+pub slice_bounds-b-end-2 : goal.slice_bounds-b-end-2
+slice_bounds-b-end-2 c = search made_fits
 
 pub slice_bounds-copy_at-end : goal.slice_bounds-copy_at-end
 slice_bounds-copy_at-end c = search made_length

@@ -1,9 +1,7 @@
 -- `probe::pack_imported` meets its contract: a number for each case. Assumes nothing.
-use Rattle.probe.proofs.Packed.{imported_good, imported_refused}
+use mathlib.Core.Path.{sym}
+use Rattle.probe.proofs.Packed.{packed_is}
 use Rattle.probe.proofs.pack_imported.Goals as goal
 
-pub returns-in-Good : goal.returns-in-Good
-returns-in-Good c = search imported_good
-
-pub returns-in-Refused : goal.returns-in-Refused
-returns-in-Refused c = search imported_refused
+pub returns-in-Err : goal.returns-in-Err
+returns-in-Err c = rw c.in-Err.is (search packed_is)
