@@ -2,8 +2,8 @@
 // How a line is written stands in specs/Grammar.antt, how it is taken apart in specs/Line.antt.
 #![tactic(auto)]
 
-ghost use Rattle.std.specs.Prelude.{◌≡◌, ◌+◌, ◌<◌, ◌≤◌, length, drop};
-ghost use Rattle.text.specs.Inner.{Written};
+ghost use Rattle.std.specs.Prelude.{◌≡◌, drop};
+ghost use Rattle.text.specs.Writing.{HasRoom, Wrote};
 ghost use Rattle.digits.specs.Digits.{value_from};
 ghost use Rattle.sheet_line.specs.Line.{number_field, label_field, trace_on, quoted, characters, behind_comma, flags_field, well_formed, line_faults, line_judged, padded, front_of, record_of};
 ghost use Rattle.sheet_line.specs.Inner.{Sound};
@@ -18,6 +18,8 @@ pub enum LineFault {
     // a trace of more than 15 characters
     Long,
 }
+
+use text::Writer;
 
 const COMMA: u8 = 0x2c;
 
@@ -92,28 +94,28 @@ pub fn answer(s: &[u8], ended: bool) -> Result<(), LineFault>
 }
 
 // The mark, the number and the label of a line's record.
-fn front(out: &mut [u8], at: usize, s: &[u8]) -> usize
-    requires { (Sound s.now) × (at + 5 ≤ length out.old) }
-    ensures { Written at (front_of s.now) out.old out.new result }
+fn front(w: &mut Writer, s: &[u8])
+    requires { (Sound s.now) × HasRoom 5 w.old }
+    ensures { Wrote (front_of s.now) w.old w.new }
 {
     let v = digits::value(split::before(s, COMMA));
-    let a = text::bytes(out, at, b"ZM");
-    let b = text::byte(out, a, (v / 256) as u8);
-    let c = text::byte(out, b, (v % 256) as u8);
-    text::byte(out, c, digits::label(label_field(s)))
+    w.bytes(b"ZM");
+    w.byte((v / 256) as u8);
+    w.byte((v % 256) as u8);
+    w.byte(digits::label(label_field(s)));
 }
 
 // The characters of a line's trace, with spaces up to 15.
-fn trace(out: &mut [u8], at: usize, s: &[u8]) -> usize
-    requires { (Sound s.now) × (at + 15 ≤ length out.old) }
-    ensures { Written at (padded (characters s.now)) out.old out.new result }
+fn trace(w: &mut Writer, s: &[u8])
+    requires { (Sound s.now) × HasRoom 15 w.old }
+    ensures { Wrote (padded (characters s.now)) w.old w.new }
 {
     let spaces = [0x20u8; 15];
     let t = inside(s);
     let k = quotes::count(t);
-    let a = quotes::characters(out, at, t);
+    quotes::characters(w, t);
     let m = 15 - k;
-    text::bytes(out, a, &spaces[..m])
+    w.bytes(&spaces[..m]);
 }
 
 // The flags of a line.
@@ -124,12 +126,12 @@ fn flags(s: &[u8]) -> u8
     digits::value(flags_field(s)) as u8
 }
 
-// The record that a line says, where nothing is wrong with it, written from a place on.
-pub fn record(out: &mut [u8], at: usize, s: &[u8]) -> usize
-    requires { (Sound s.now) × (at + 21 ≤ length out.old) }
-    ensures { Written at (record_of s.now) out.old out.new result }
+// The record that a line says, where nothing is wrong with it, written.
+pub fn record(w: &mut Writer, s: &[u8])
+    requires { (Sound s.now) × HasRoom 21 w.old }
+    ensures { Wrote (record_of s.now) w.old w.new }
 {
-    let a = front(out, at, s);
-    let b = trace(out, a, s);
-    text::byte(out, b, flags(s))
+    front(w, s);
+    trace(w, s);
+    w.byte(flags(s));
 }
