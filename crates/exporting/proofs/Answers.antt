@@ -7,7 +7,10 @@ use lib.ListN.{length, take}
 use lib.Seq.{length-take-le}
 use Rattle.copier.specs.Put.{put}
 use Rattle.copier.proofs.Put.{length_piece, put_none}
-use Rattle.text.specs.Inner.{Within}
+use Rattle.text.specs.Inner.{Written}
+use Rattle.text.specs.declared.Writer.{Writer}
+use Rattle.text.specs.Writing.{HasRoom, WroteWithin}
+use Rattle.text.proofs.Within.{begun, unbound}
 use Rattle.refusals.specs.Refusals.{Fault, said_by}
 use Rattle.refusals.proofs.Wrong.{Numbered}
 use Rattle.records.specs.Record.{old_kind, most_records}
@@ -29,6 +32,14 @@ line_most_lem : (form : Form) (n : ℕ) → form ≡ sheet_form → line_most fo
 unfolding characters_most
 line_most_lem form n e = rw e
 
+-- the lines, from the start of a buffer on
+module _ (form : Form) (b : List ℕ) (t : Writer) (n : ℕ) (e : form ≡ sheet_form) (h : 46 * n ≤ length b) (held : t.out.now ≡ b) (start : t.at ≡ 0) where
+  pub lines_room : HasRoom (line_most form * n) t
+  lines_room = omega (arith, line_most_lem form n e, ap length held, start)
+
+  pub lines_written : (kind : Kind) (s : List ℕ) (w : Writer) → WroteWithin (line_most form * n) (lines_from form kind s 0 n) t w → Written 0 (lines_from sheet_form kind s 0 n) b w.out.now w.at
+  lines_written kind s w x = begun (lines_from sheet_form kind s 0 n) b t w held start (rw e at (unbound x))
+
 -- the answer says what the catalogue's table says
 exported_said : (m n : ℕ) (l : List (Fault Refusal)) → Numbered catalogue_says l → exported_says (export_answer m (catalogue_answer n (first_fault l))) ≡ said_by (0 ∷ m ∷ []) l
 unfolding exported_says export_answer catalogue_answer first_fault said_by
@@ -49,25 +60,25 @@ module _ (s b : List ℕ) (c : Counted) (is_c : Checks old_kind s c) where
   checked_so : c.checked ≡ check_of old_kind s
   checked_so = checked_is old_kind s c is_c
 
-  module _ (n : ℕ) (e : c.checked ≡ Ok n) (form : Form) (is-form : form ≡ sheet_form) (kind : Kind) (is-kind : kind ≡ old_kind) where
+  module _ (n : ℕ) (e : c.checked ≡ Ok n) (kind : Kind) (is-kind : kind ≡ old_kind) where
     whole : (length s ≡ old_kind.length * n) × (n ≤ most_records)
     whole = good_length old_kind s n (sym checked_so ∙ e)
 
     pub good_records : length s ≡ kind.length * n
     good_records = rw is-kind whole.0
 
-    pub good_room : length b ≡ 23552 → 0 + line_most form * n ≤ length b
-    good_room l = omega (arith, line_most_lem form n is-form, whole.1)
+    pub good_room : length b ≡ 23552 → 46 * n ≤ length b
+    good_room l = omega (arith, whole.1)
 
-    text_is : lines_from form kind s 0 n ≡ export_of s
+    text_is : lines_from sheet_form kind s 0 n ≡ export_of s
     unfolding export_of text_of
-    text_is = rw (is-form, is-kind, ← checked_so, e)
+    text_is = rw (is-kind, ← checked_so, e)
 
-    pub good_exported : (a : List ℕ) (k : ℕ) → length a ≡ length b → length b ≡ 23552 → Within (line_most form * n) 0 (lines_from form kind s 0 n) b a k → Exports s b a (Ok k)
+    pub good_exported : (a : List ℕ) (k : ℕ) → length a ≡ length b → length b ≡ 23552 → Written 0 (lines_from sheet_form kind s 0 n) b a k → Exports s b a (Ok k)
     unfolding export_answer
     good_exported a k q l w =
-        let long : k ≡ length (export_of s) = w.written.next_is ∙ omega (arith, ap length text_is) in
-        let now_is : a ≡ put 0 (export_of s) b = w.written.now_is ∙ ap (λ (t : List ℕ). put 0 t b) text_is in
+        let long : k ≡ length (export_of s) = w.next_is ∙ omega (arith, ap length text_is) in
+        let now_is : a ≡ put 0 (export_of s) b = w.now_is ∙ ap (λ (t : List ℕ). put 0 t b) text_is in
         exports s b a (Ok k) (omega (arith, ap length now_is, length_piece b (export_of s) 0)) (rw (← checked_so, e, ← long)) now_is
 
   pub refused_exported : (x : Refusal) → c.checked ≡ Err x → Exports s b b (Err x)

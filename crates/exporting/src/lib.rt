@@ -1,11 +1,14 @@
 // The export of a catalogue as comma-separated text, in a lent buffer. What it is stands in specs/Export.antt. The program `export` prints it.
 #![tactic(auto)]
 
-ghost use Rattle.std.specs.Prelude.{◌≡◌};
+ghost use Rattle.std.specs.Prelude.{◌≡◌, ◌*◌, ◌≤◌, length};
+ghost use Rattle.text.specs.Inner.{Written};
+ghost use Rattle.record_line.specs.RecordLine.{lines_from};
 ghost use Rattle.exporting.specs.Export.{sheet_form, Exports};
 
 use record_line::Form;
 use records::{Kind, Refusal};
+use text::Writer;
 
 // The form of its lines: commas between the fields, the trace in double quotes.
 fn form() -> Form
@@ -19,11 +22,21 @@ fn form() -> Form
     }
 }
 
+// The lines of a good catalogue of n records, from the start of a buffer on; the answer is how many bytes they are.
+fn text_of(kind: Kind, out: &mut [u8], s: &[u8], n: usize) -> usize
+    requires { (length s.now ≡ kind.length * n) × (46 * n ≤ length out.old) }
+    ensures { Written 0 (lines_from sheet_form kind s.now 0 n) out.old out.new result }
+{
+    let mut w = Writer::new(out);
+    record_line::lines(form(), kind, &mut w, s, n);
+    w.at
+}
+
 // The export, written from the start of the buffer on; the answer is the text's length. The buffer has room for 512 lines of 46, whatever bytes a record holds; the records of a
 // good catalogue make lines of at most 44. A refused catalogue leaves it as it was.
 pub fn export(s: &[u8], out: &mut [u8; 23552]) -> Result<usize, Refusal>
     ensures { Exports s.now out.old out.new result }
 {
     let n = catalogue::check(s).checked?;
-    Ok(record_line::lines(form(), Kind::old(), out, 0, s, n))
+    Ok(text_of(Kind::old(), out, s, n))
 }

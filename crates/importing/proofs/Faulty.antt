@@ -1,10 +1,9 @@
 -- The loop over the lines for the first of what is wrong, and what holds where nothing is.
 use mathlib.Core.Path.{◌≡◌, refl, sym, ◌∙◌}
+use mathlib.Core.Bool.{Bool}
 use mathlib.Core.List.{List, [], ◌∷◌, ◌++◌}
-use Prim.Native.Nat.{ℕ, ◌+◌, ◌<◌, ◌≤◌}
+use Prim.Native.Nat.{ℕ, ◌+◌}
 use native.Mathlib.Omega.{arith}
-use lib.Dec.{leb}
-use lib.ListN.{length, drop}
 use Rattle.refusals.specs.Refusals.{Fault, rows_at}
 use Rattle.refusals.proofs.Joined.{joined_none, rows_none}
 use Rattle.sheet_line.specs.Line.{line_faults, line_judged}
@@ -12,10 +11,9 @@ use Rattle.sheet_line.specs.declared.LineFault.{LineFault}
 use Rattle.std.specs.Prelude.{Result, Ok, Err, ⊤}
 use Rattle.sheet_line.proofs.Ways.{sound}
 use Rattle.importing.specs.Import.{Cut, lines_of, faults_from, first_of}
-use Rattle.importing.specs.Inner.{Sounds, none, more}
+use Rattle.importing.specs.Inner.{Parts, Sounds, none, more}
 use Rattle.sheet_refusals.specs.declared.Refusal.{Refusal}
 use Rattle.sheet_refusals.specs.declared.Refusal.TheVariants.{Line}
-use Rattle.importing.proofs.Walk.{line_at, next_of, lines_at, lines_over}
 
 -- ---- the first of two tables
 
@@ -46,22 +44,22 @@ first_rest (f ∷ fs) ys place e = let z : ◌≡◌ {A = ℕ} 0 1 = cc in absur
 
 -- ---- the loop
 
--- l is the line at the place, and f what is wrong first with it
-module _ (s l : List ℕ) (at k next : ℕ) (f : Result ⊤ LineFault) (p : Result ⊤ Refusal) (h : at < length s) (is-next : next ≡ next_of s at) (is-l : l ≡ line_at s at)
-    (is_f : f ≡ line_judged (line_faults (leb next (length s)) l)) (e : first_of (faults_from k (lines_of (drop at s))) ≡ p) where
-  here : first_of (line_rows (k + 1) (line_faults (leb next (length s)) l) ++ faults_from (k + 1) (lines_of (drop next s))) ≡ p
+-- l is the first line of the rest, and f what is wrong first with it
+module _ (rest l further : List ℕ) (ended : Bool) (k : ℕ) (f : Result ⊤ LineFault) (p : Result ⊤ Refusal) (parts : Parts rest l ended further)
+    (is_f : f ≡ line_judged (line_faults ended l)) (e : first_of (faults_from k (lines_of rest)) ≡ p) where
+  here : first_of (line_rows (k + 1) (line_faults ended l) ++ faults_from (k + 1) (lines_of further)) ≡ p
   unfolding faults_from
-  here = rw (is-l, is-next) (rw (lines_at s at h) at e)
+  here = rw parts.are at e
 
   pub fault_hit : (x : LineFault) → f ≡ Err x → Err (Line x (k + 1)) ≡ p
-  fault_hit x g = sym (first_hit (line_faults (leb next (length s)) l) (faults_from (k + 1) (lines_of (drop next s))) (k + 1) x (sym is_f ∙ g)) ∙ here
+  fault_hit x g = sym (first_hit (line_faults ended l) (faults_from (k + 1) (lines_of further)) (k + 1) x (sym is_f ∙ g)) ∙ here
 
-  pub fault_turn : f ≡ Ok tt → first_of (faults_from (k + 1) (lines_of (drop next s))) ≡ p
-  fault_turn g = sym (first_rest (line_faults (leb next (length s)) l) (faults_from (k + 1) (lines_of (drop next s))) (k + 1) (sym is_f ∙ g)) ∙ here
+  pub fault_turn : f ≡ Ok tt → first_of (faults_from (k + 1) (lines_of further)) ≡ p
+  fault_turn g = sym (first_rest (line_faults ended l) (faults_from (k + 1) (lines_of further)) (k + 1) (sym is_f ∙ g)) ∙ here
 
-pub fault_end : (s : List ℕ) (at k : ℕ) (p : Result ⊤ Refusal) → length s ≤ at → first_of (faults_from k (lines_of (drop at s))) ≡ p → Ok tt ≡ p
+pub fault_end : (rest : List ℕ) (k : ℕ) (p : Result ⊤ Refusal) → lines_of rest ≡ [] → first_of (faults_from k (lines_of rest)) ≡ p → Ok tt ≡ p
 unfolding faults_from first_of
-fault_end s at k p h e = rw (lines_over s at h) at e
+fault_end rest k p h e = rw h at e
 
 -- ---- where nothing is wrong
 

@@ -1,19 +1,19 @@
 -- The loop that writes the records, and the ends of the import.
 use mathlib.Core.Path.{◌≡◌, refl, sym, ap, ◌∙◌}
+use mathlib.Core.Bool.{Bool}
 use mathlib.Core.List.{List, [], ◌∷◌, ◌++◌}
-use Prim.Native.Nat.{ℕ, ◌+◌, ◌*◌, ◌<◌, ◌≤◌}
+use Prim.Native.Nat.{ℕ, ◌+◌, ◌-◌, ◌*◌, ◌<◌, ◌≤◌}
 use native.Mathlib.Omega.{arith}
-use lib.Dec.{leb}
 use lib.ListN.{length, take, drop, length-append, length-drop}
 use lib.Seq.{take_all, take-add, drop-drop, take_at, drop_at, length-take-le}
-use Rattle.text.specs.Inner.{Written}
-use Rattle.text.proofs.Pieces.{written_none, written_then}
+use Rattle.text.specs.declared.Writer.{Writer}
+use Rattle.text.specs.Writing.{HasRoom, Wrote}
+use Rattle.text.proofs.Pieces.{wrote_none, wrote_then}
 use Rattle.sheet_line.specs.Line.{front_of, characters, record_of}
 use Rattle.sheet_line.specs.Inner.{Sound}
 use Rattle.sheet_line.proofs.Writing.{padded_length}
 use Rattle.importing.specs.Import.{Cut, cut, lines_of, records_of, result_of}
-use Rattle.importing.specs.Inner.{Sounds, none, more}
-use Rattle.importing.proofs.Walk.{line_at, next_of, lines_at, lines_over}
+use Rattle.importing.specs.Inner.{Parts, Sounds, none, more}
 
 -- ---- lengths
 
@@ -28,22 +28,24 @@ records_length ks (more {l = l} {ls = ls} w ws) = simp length-append (omega (ari
 
 -- ---- the loop
 
--- what is written up to e is the beginning of the result, and the lines from at on say the rest
-pub record Half (s b a : List ℕ) (at e : ℕ) : Type 0 where
-  pub left : Sounds (lines_of (drop at s))
-  pub written : Written 0 (take e (result_of s)) b a e
-  pub rest : drop e (result_of s) ≡ records_of (lines_of (drop at s))
-  pub kept : length a ≡ length b
+-- what is written is the beginning of the result, and the lines of the rest say what is left of it
+pub record Half (s rest : List ℕ) (u w : Writer) : Type 0 where
+  pub left : Sounds (lines_of rest)
+  pub from : u.at ≤ w.at
+  pub wrote : Wrote (take (w.at - u.at) (result_of s)) u w
+  pub says : drop (w.at - u.at) (result_of s) ≡ records_of (lines_of rest)
 
-pub half_start : (s b : List ℕ) → Sounds (lines_of s) → Half s b b 0 0
+pub half_start : (s : List ℕ) (u : Writer) → Sounds (lines_of s) → Half s s u u
 unfolding result_of
-half_start s b w = record { left = w; written = written_none 0 b; rest = refl; kept = refl }
+half_start s u ok =
+    let q : u.at - u.at ≡ 0 = omega arith in
+    record { left = ok; from = omega arith; wrote = rw q (wrote_none u); says = rw q refl }
 
-pub half_end : (s b a : List ℕ) (at e : ℕ) → length s ≤ at → Half s b a at e → Written 0 (result_of s) b a e
+pub half_end : (s rest : List ℕ) (u w : Writer) → lines_of rest ≡ [] → Half s rest u w → Wrote (result_of s) u w
 unfolding records_of
-half_end s b a at e h f =
-    let n : drop e (result_of s) ≡ [] = f.rest ∙ (rw (lines_over s at h)) in
-    rw (take_all e (result_of s) (omega (arith, ap length n, length-drop e (result_of s)))) at f.written
+half_end s rest u w h f =
+    let n : drop (w.at - u.at) (result_of s) ≡ [] = f.says ∙ (rw h) in
+    rw (take_all (w.at - u.at) (result_of s) (omega (arith, ap length n, length-drop (w.at - u.at) (result_of s)))) at f.wrote
 
 first_sound : (l : Cut) (ls : List Cut) → Sounds (l ∷ ls) → Sound l.bytes
 first_sound l ls (more w ws) = w
@@ -62,31 +64,33 @@ module _ (x r y : List ℕ) (e : ℕ) (q : drop e x ≡ r ++ y) where
   next_long : 0 < length r → e + length r ≤ length x
   next_long h = omega (arith, ap length q, length-append r y, length-drop e x)
 
-module _ (s l b m : List ℕ) (at e : ℕ) (all : Sounds (lines_of s)) (room : 21 * length (lines_of s) ≤ length b) (h : at < length s) (is-l : l ≡ line_at s at) (f : Half s b m at e) where
-  opened : Sounds (cut (line_at s at) (leb (next_of s at) (length s)) ∷ lines_of (drop (next_of s at) s))
-  opened = rw (lines_at s at h) at f.left
+module _ (s rest l further : List ℕ) (ended : Bool) (u v : Writer) (all : Sounds (lines_of s)) (room : HasRoom (21 * length (lines_of s)) u) (p : Parts rest l ended further) (f : Half s rest u v) where
+  opened : Sounds (cut l ended ∷ lines_of further)
+  opened = rw p.are at f.left
 
   pub line_sound : Sound l
-  line_sound = rw is-l (first_sound (cut (line_at s at) (leb (next_of s at) (length s))) (lines_of (drop (next_of s at) s)) opened)
+  line_sound = first_sound (cut l ended) (lines_of further) opened
 
-  stands : drop e (result_of s) ≡ record_of l ++ records_of (lines_of (drop (next_of s at) s))
+  stands : drop (v.at - u.at) (result_of s) ≡ record_of l ++ records_of (lines_of further)
   unfolding records_of
-  stands = f.rest ∙ rw (lines_at s at h, is-l)
+  stands = f.says ∙ rw p.are
 
-  ends : e + length (record_of l) ≤ length (result_of s)
-  ends = next_long (result_of s) (record_of l) (records_of (lines_of (drop (next_of s at) s))) e stands (omega (arith, record_length l line_sound))
+  ends : v.at - u.at + length (record_of l) ≤ length (result_of s)
+  ends = next_long (result_of s) (record_of l) (records_of (lines_of further)) (v.at - u.at) stands (omega (arith, record_length l line_sound))
 
-  pub record_room : e + 21 ≤ length m
+  pub record_room : HasRoom 21 v
   unfolding result_of
-  record_room = omega (arith, ends, record_length l line_sound, records_length (lines_of s) all, f.kept)
+  record_room = omega (arith, ends, record_length l line_sound, records_length (lines_of s) all, f.from, f.wrote.keeps)
 
-  pub half_turn : (a : List ℕ) (e' next : ℕ) → Written e (record_of l) m a e' → length a ≡ length m → next ≡ next_of s at → Half s b a next e'
-  half_turn a e' next w k is-next = record {
-    left = rw is-next (rest_sounds (cut (line_at s at) (leb (next_of s at) (length s))) (lines_of (drop (next_of s at) s)) opened);
-    written =
-        let t = length-take-le e (result_of s) (omega (arith, ends)) in
-        rw (w.next_is, next_take (result_of s) (record_of l) (records_of (lines_of (drop (next_of s at) s))) e stands)
-        (rw w.next_is at (written_then 0 e e' (take e (result_of s)) (record_of l) b m a (omega (arith, record_room, record_length l line_sound, f.kept)) f.written w));
-    rest = rw (w.next_is, is-next) (next_drop (result_of s) (record_of l) (records_of (lines_of (drop (next_of s at) s))) e stands);
-    kept = k ∙ f.kept;
-  }
+  pub half_turn : (w : Writer) → Wrote (record_of l) v w → Half s further u w
+  half_turn w x =
+      let q : w.at - u.at ≡ v.at - u.at + length (record_of l) = omega (arith, x.next_is, f.from) in
+      record {
+        left = rest_sounds (cut l ended) (lines_of further) opened;
+        from = omega (arith, x.next_is, f.from);
+        wrote =
+            let t = length-take-le (v.at - u.at) (result_of s) (omega (arith, ends)) in
+            rw (q, next_take (result_of s) (record_of l) (records_of (lines_of further)) (v.at - u.at) stands)
+            (wrote_then (take (v.at - u.at) (result_of s)) (record_of l) u v w (omega (arith, record_room, f.wrote.keeps, f.from)) f.wrote x);
+        says = rw q (next_drop (result_of s) (record_of l) (records_of (lines_of further)) (v.at - u.at) stands);
+      }

@@ -1,12 +1,17 @@
 -- What the functions inside the import ask and answer. No rule of 02 stands here, and the promise of `importing::import` does not cite it.
-use Rattle.std.specs.Prelude.{ℕ, ◌≡◌, List, [], ◌∷◌, Result, Ok, Err}
+use Rattle.std.specs.Prelude.{ℕ, ◌≡◌, ◌<◌, Bool, List, [], ◌∷◌, length, Result, Ok, Err}
 use Rattle.records.specs.Record.{old_kind}
 use Rattle.catalogue.specs.Catalogue.{check_of}
 use Rattle.records.specs.declared.Refusal as of-records
 use Rattle.sheet_line.specs.Inner.{Sound}
-use Rattle.importing.specs.Import.{Cut, left_by}
+use Rattle.importing.specs.Import.{Cut, cut, lines_of, left_by}
 use Rattle.sheet_refusals.specs.declared.Refusal.{Refusal}
 use Rattle.sheet_refusals.specs.declared.Refusal.TheVariants.{Catalogue}
+
+-- the first line of a text, whether an LF ends it, and what stands behind it
+pub record Parts (s line : List ℕ) (ended : Bool) (rest : List ℕ) : Type 0 where
+  pub are : lines_of s ≡ cut line ended ∷ lines_of rest
+  pub less : length rest < length s
 
 -- nothing is wrong with the lines
 pub data Sounds : List Cut → Type 0 where

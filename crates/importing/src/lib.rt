@@ -2,32 +2,29 @@
 // specs/Inner.antt has what the functions inside ask and answer. The program `import` prints what it gives.
 #![tactic(auto)]
 
-ghost use Rattle.std.specs.Prelude.{◌≡◌, ◌+◌, ◌*◌, ◌<◌, ◌≤◌, length, drop};
+ghost use Rattle.std.specs.Prelude.{◌≡◌, [], ◌*◌, ◌≤◌, length, MatchOption};
 ghost use Rattle.text.specs.Inner.{Written};
-ghost use Rattle.split.specs.Split.{up_to};
-ghost use Rattle.importing.specs.Import.{lf, lines_of, most_lines, faults_from, first_of, result_of, Imports};
-ghost use Rattle.importing.specs.Inner.{Sounds, Made};
+ghost use Rattle.text.specs.Writing.{HasRoom, Wrote};
+ghost use Rattle.importing.specs.Import.{lines_of, most_lines, faults_from, first_of, result_of, Imports};
+ghost use Rattle.importing.specs.Inner.{Parts, Sounds, Made};
 
 use sheet_refusals::Refusal;
+use text::Writer;
 
 const LF: u8 = 0x0a;
 
 // Lines in a text, at most.
 const MOST: usize = 512;
 
-// The line that begins at a place, without its LF.
-fn line_at(s: &[u8], at: usize) -> &[u8]
-    ensures { result.now ≡ up_to lf (drop at s.now) }
+// The first line of a text, without its LF, whether one ends it, and what stands behind it; none where nothing is left.
+fn next(s: &[u8]) -> Option<(&[u8], bool, &[u8])>
+    ensures { MatchOption result (lines_of s.now ≡ []) (λ p. Parts s.now p.0.now p.1 p.2.now) }
 {
-    split::before(split::from(s, at), LF)
-}
-
-// The place behind it and its LF; behind the end where no LF ends it.
-fn behind(s: &[u8], at: usize) -> usize
-    requires { at < length s.now }
-    ensures { (result ≡ at + length (up_to lf (drop at s.now)) + 1) × (result ≤ length s.now + 1) }
-{
-    at + line_at(s, at).len() + 1
+    if s.is_empty() {
+        return None;
+    }
+    let line = split::before(s, LF);
+    Some((line, line.len() < s.len(), split::behind(s, LF)))
 }
 
 // How many lines the text has.
@@ -35,10 +32,10 @@ fn lines(s: &[u8]) -> usize
     ensures { result ≡ length (lines_of s.now) }
 {
     let mut n = 0;
-    let mut at = 0;
-    while at < s.len() {
-        at = behind(s, at);
+    let mut rest = s;
+    while let Some((_, _, further)) = next(rest) {
         n += 1;
+        rest = further;
     }
     n
 }
@@ -48,30 +45,37 @@ fn first_fault(s: &[u8]) -> Result<(), Refusal>
     ensures { result ≡ first_of (faults_from 0 (lines_of s.now)) }
 {
     let mut k = 0;
-    let mut at = 0;
-    while at < s.len() {
-        let next = behind(s, at);
-        if let Err(x) = sheet_line::answer(line_at(s, at), next <= s.len()) {
-            return Err(Refusal::Line(x, k + 1));
-        }
-        at = next;
+    let mut rest = s;
+    while let Some((line, ended, further)) = next(rest) {
         k += 1;
+        if let Err(x) = sheet_line::answer(line, ended) {
+            return Err(Refusal::Line(x, k));
+        }
+        rest = further;
     }
     Ok(())
 }
 
 // The records that the lines say, where nothing is wrong with them.
-fn records_of(out: &mut [u8], s: &[u8]) -> usize
+fn records_of(w: &mut Writer, s: &[u8])
+    requires { (Sounds (lines_of s.now)) × HasRoom (21 * length (lines_of s.now)) w.old }
+    ensures { Wrote (result_of s.now) w.old w.new }
+{
+    let mut rest = s;
+    while let Some((line, _, further)) = next(rest) {
+        sheet_line::record(w, line);
+        rest = further;
+    }
+}
+
+// The same from the start of a buffer on; the answer is how many bytes they are.
+fn made_in(out: &mut [u8], s: &[u8]) -> usize
     requires { (Sounds (lines_of s.now)) × (21 * length (lines_of s.now) ≤ length out.old) }
     ensures { Written 0 (result_of s.now) out.old out.new result }
 {
-    let mut e = 0;
-    let mut at = 0;
-    while at < s.len() {
-        e = sheet_line::record(out, e, line_at(s, at));
-        at = behind(s, at);
-    }
-    e
+    let mut w = Writer::new(out);
+    records_of(&mut w, s);
+    w.at
 }
 
 // The catalogue that the lines say, made apart and checked, and then copied to the lent buffer where it is good.
@@ -80,7 +84,7 @@ fn made(s: &[u8], out: &mut [u8; 10752]) -> Result<usize, Refusal>
     ensures { Made (result_of s.now) out.old out.new result }
 {
     let mut b = [0u8; 10752];
-    let n = records_of(&mut b, s);
+    let n = made_in(&mut b, s);
     let k = catalogue::check(&b[..n]).checked?;
     copier::copy_at(&b[..n], out, 0);
     Ok(k)

@@ -7,7 +7,10 @@ use lib.ListN.{length, take}
 use lib.Seq.{length-take-le}
 use Rattle.copier.proofs.Put.{length_piece}
 use Rattle.text.specs.Inner.{Written, Within}
-use Rattle.text.proofs.Pieces.{written_then}
+use Rattle.text.specs.declared.Writer.{Writer}
+use Rattle.text.specs.Writing.{HasRoom, Wrote, WroteWithin}
+use Rattle.text.proofs.Pieces.{wrote_then}
+use Rattle.text.proofs.Within.{begun, unbound}
 use Rattle.catalogue.specs.Catalogue.{Checks}
 use Rattle.records.specs.Record.{old_kind, most_records}
 use Rattle.records.specs.declared.Kind.{Kind}
@@ -30,12 +33,14 @@ unfolding characters_most
 line_most_lem form n e = rw e
 
 -- the heading, and then the lines
-pub lines_room : (form : Form) (b m : List ℕ) (at n : ℕ) → form ≡ listing_form → 26 + 31 * n ≤ length b → Written 0 heading b m at → length m ≡ length b → at + line_most form * n ≤ length m
-lines_room form b m at n e h w l = omega (arith, line_most_lem form n e, w.next_is)
+module _ (form : Form) (b : List ℕ) (t u : Writer) (n : ℕ) (e : form ≡ listing_form) (h : 26 + 31 * n ≤ length b) (held : t.out.now ≡ b) (start : t.at ≡ 0) (x : Wrote heading t u) where
+  pub lines_room : HasRoom (line_most form * n) u
+  lines_room = omega (arith, line_most_lem form n e, x.next_is, x.keeps, ap length held, start)
 
-pub good_written : (form : Form) (kind : Kind) (s b m a : List ℕ) (at n e : ℕ) → form ≡ listing_form → 26 + 31 * n ≤ length b → Written 0 heading b m at → Within (line_most form * n) at (lines_from form kind s 0 n) m a e
-    → Written 0 (heading ++ lines_from listing_form kind s 0 n) b a e
-good_written form kind s b m a at n e is-form h w v = written_then 0 at e heading (lines_from listing_form kind s 0 n) b m a (omega arith) w (rw is-form at v.written)
+  pub good_written : (kind : Kind) (s : List ℕ) (w : Writer) → WroteWithin (line_most form * n) (lines_from form kind s 0 n) u w → Written 0 (heading ++ lines_from listing_form kind s 0 n) b w.out.now w.at
+  good_written kind s w y =
+      let both : Wrote (heading ++ lines_from listing_form kind s 0 n) t w = wrote_then heading (lines_from listing_form kind s 0 n) t u w (omega (arith, ap length held, start)) x (rw e at (unbound y)) in
+      begun (heading ++ lines_from listing_form kind s 0 n) b t w held start both
 
 -- what is written is no longer than the buffer, which keeps its length
 listed : (kind : Kind) (s t b a : List ℕ) (e : ℕ) → t ≡ listing_of kind s → length a ≡ length b → length b ≡ 15898 → Written 0 t b a e → Listed kind s b a e

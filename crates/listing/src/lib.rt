@@ -10,6 +10,7 @@ ghost use Rattle.listing.specs.Listing.{heading, listing_form, Listed};
 
 use record_line::Form;
 use records::Kind;
+use text::Writer;
 
 // The form of its lines: blanks between the fields, the trace in brackets.
 fn form() -> Form
@@ -28,8 +29,10 @@ fn good(kind: Kind, out: &mut [u8], s: &[u8], n: usize) -> usize
     requires { (length s.now ≡ kind.length * n) × (26 + 31 * n ≤ length out.old) }
     ensures { Written 0 (heading ++ lines_from listing_form kind s.now 0 n) out.old out.new result }
 {
-    let at = text::bytes(out, 0, b"circuit label trace flags\n");
-    record_line::lines(form(), kind, out, at, s, n)
+    let mut w = Writer::new(out);
+    w.bytes(b"circuit label trace flags\n");
+    record_line::lines(form(), kind, &mut w, s, n);
+    w.at
 }
 
 // The listing, written from the start of the buffer on; the answer is its length. The buffer has room for the heading of 26 bytes and

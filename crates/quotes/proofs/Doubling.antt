@@ -10,8 +10,10 @@ use lib.ListN.{length, take, get_or, length-take}
 use lib.Seq.{take_all, take-suc}
 use borrow.Author.Tests.{eq-eqb, ne_eqb, eqb-true}
 use Rattle.laws.proofs.Tests.{by_test}
-use Rattle.text.specs.Inner.{Written}
-use Rattle.text.proofs.Pieces.{written_none, written_then}
+use Rattle.text.specs.declared.Writer.{Writer}
+use Rattle.text.specs.Writing.{HasRoom, Wrote, WroteWithin}
+use Rattle.text.proofs.Pieces.{wrote_none, wrote_then}
+use Rattle.text.proofs.Within.{within}
 use Rattle.split.specs.Split.{opens}
 use Rattle.quotes.specs.Quotes.{quote, in_quotes, behind_quotes, doubled}
 
@@ -55,35 +57,31 @@ behind_doubled (x ∷ s) t e = go (eqb x quote) refl (behind_doubled s t e)
 
 -- ---- one character
 
-module _ (b a : List ℕ) (at x n : ℕ) where
-  pub double_quote : x ≡ quote → Written at (quote ∷ quote ∷ []) b a n → Written at (doubled (x ∷ [])) b a n
+module _ (x : ℕ) (u w : Writer) where
+  pub double_quote : x ≡ quote → Wrote (quote ∷ quote ∷ []) u w → Wrote (doubled (x ∷ [])) u w
   unfolding doubled
-  double_quote e w = rw (eq-eqb x quote e) w
+  double_quote e a = rw (eq-eqb x quote e) a
 
-  pub double_plain : (x ≡ quote → ⊥) → Written at (x ∷ []) b a n → Written at (doubled (x ∷ [])) b a n
+  pub double_plain : (x ≡ quote → ⊥) → Wrote (x ∷ []) u w → Wrote (doubled (x ∷ [])) u w
   unfolding doubled
-  double_plain e w = rw (ne_eqb x quote e) w
+  double_plain e a = rw (ne_eqb x quote e) a
 
 -- ---- the loop
 
-pub double_start : (s b : List ℕ) (at : ℕ) → Written at (doubled (take 0 s)) b b at
+pub double_start : (s : List ℕ) (u : Writer) → Wrote (doubled (take 0 s)) u u
 unfolding doubled
-double_start s b at = written_none at b
+double_start s u = wrote_none u
 
-module _ (s b m : List ℕ) (at i e : ℕ) (room : at + 2 * length s ≤ length b) (h : i < length s) (k : length m ≡ length b) (w : Written at (doubled (take i s)) b m e) where
-  so_far : e ≤ at + 2 * i
-  so_far = omega (arith, w.next_is, doubled_length (take i s), length-take i s)
+module _ (s : List ℕ) (u v : Writer) (i : ℕ) (room : HasRoom (2 * length s) u) (h : i < length s) (a : Wrote (doubled (take i s)) u v) where
+  so_far : v.at ≤ u.at + 2 * i
+  so_far = omega (arith, a.next_is, doubled_length (take i s), length-take i s)
 
-  pub double_room : e + 2 ≤ length m
-  double_room = omega (arith, so_far)
+  pub double_room : HasRoom 2 v
+  double_room = omega (arith, so_far, a.keeps)
 
-  pub double_turn : (a : List ℕ) (e' : ℕ) → Written e (doubled (get_or s i 0 ∷ [])) m a e' → Written at (doubled (take (i + 1) s)) b a e'
-  double_turn a e' v =
-      rw (add-one, take-suc s i 0 h, doubled_both) (written_then at e e' (doubled (take i s)) (doubled (get_or s i 0 ∷ [])) b m a (omega (arith, so_far, w.next_is)) w v)
+  pub double_turn : (w : Writer) → Wrote (doubled (get_or s i 0 ∷ [])) v w → Wrote (doubled (take (i + 1) s)) u w
+  double_turn w b =
+      rw (add-one, take-suc s i 0 h, doubled_both) (wrote_then (doubled (take i s)) (doubled (get_or s i 0 ∷ [])) u v w (omega (arith, so_far, a.next_is)) a b)
 
-module _ (s b a : List ℕ) (at i e : ℕ) (h : length s ≤ i) (w : Written at (doubled (take i s)) b a e) where
-  pub double_end : Written at (doubled s) b a e
-  double_end = rw (take_all i s h) at w
-
-  pub double_long : e ≤ at + 2 * length s
-  double_long = omega (arith, double_end.next_is, doubled_length s)
+pub double_end : (s : List ℕ) (u w : Writer) (i : ℕ) → length s ≤ i → Wrote (doubled (take i s)) u w → WroteWithin (2 * length s) (doubled s) u w
+double_end s u w i h a = within (2 * length s) (rw (take_all i s h) at a) (doubled_length s)

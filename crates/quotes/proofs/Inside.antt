@@ -6,20 +6,20 @@ use Prim.Native.Nat.{ℕ, zero, suc, ◌+◌, ◌-◌, ◌<◌, ◌≤◌}
 use native.Mathlib.Omega.{arith}
 use lib.ListN.{length, take, drop, length-drop}
 use lib.Seq.{take_all, length-take-le}
-use Rattle.text.specs.Inner.{Written}
-use Rattle.text.proofs.Pieces.{written_none, written_then}
+use Rattle.text.specs.declared.Writer.{Writer}
+use Rattle.text.specs.Writing.{HasRoom, Wrote}
+use Rattle.text.proofs.Pieces.{wrote_none, wrote_then}
 use Rattle.quotes.specs.Quotes.{in_quotes}
 use Rattle.quotes.specs.Inner.{Closes, Says}
 use Rattle.quotes.proofs.Laws.{said_in, closes_in}
 
 -- ---- the characters, written
 
--- of the characters x, those before place k are written from at on up to e, and those from k on are what the rest says
-pub record Half (x rest b a : List ℕ) (at e : ℕ) : Type 0 where
-  pub from : at ≤ e
-  pub written : Written at (take (e - at) x) b a e
-  pub left : drop (e - at) x ≡ in_quotes false rest
-  pub kept : length a ≡ length b
+-- of the characters x those before the rest are written, and the others are what the rest says
+pub record Half (x rest : List ℕ) (u w : Writer) : Type 0 where
+  pub from : u.at ≤ w.at
+  pub wrote : Wrote (take (w.at - u.at) x) u w
+  pub left : drop (w.at - u.at) x ≡ in_quotes false rest
 
 at_cons : (x r : List ℕ) (k y : ℕ) → drop k x ≡ y ∷ r → (k < length x) × ((take (suc k) x ≡ take k x ++ (y ∷ [])) × (drop (suc k) x ≡ r))
 at_cons [] r zero y e = let z : ◌≡◌ {A = ℕ} 0 1 = cc in absurd (omega arith)
@@ -27,30 +27,29 @@ at_cons [] r (suc k) y e = let z : ◌≡◌ {A = ℕ} 0 1 = cc in absurd (omega
 at_cons (u ∷ x) r zero y e = (omega arith, (cc, cc))
 at_cons (u ∷ x) r (suc k) y e = let f = at_cons x r k y e in (omega arith, (ap (λ (l : List ℕ). u ∷ l) f.1.0, f.1.1))
 
-pub half_start : (s b : List ℕ) (at : ℕ) → Half (in_quotes false s) s b b at at
-half_start s b at =
-    let q : at - at ≡ 0 = omega arith in
-    record { from = omega arith; written = rw q (written_none at b); left = rw q; kept = refl }
+pub half_start : (s : List ℕ) (u : Writer) → Half (in_quotes false s) s u u
+half_start s u =
+    let q : u.at - u.at ≡ 0 = omega arith in
+    record { from = omega arith; wrote = rw q (wrote_none u); left = rw q }
 
-pub half_end : (x rest b a : List ℕ) (at e : ℕ) → Half x rest b a at e → Closes rest → Written at x b a e
-half_end x rest b a at e f n =
-    let l : length x ≤ e - at = omega (arith, ap length (f.left ∙ closes_in rest n), length-drop (e - at) x) in
-    rw (take_all (e - at) x l) at f.written
+pub half_end : (x rest : List ℕ) (u w : Writer) → Half x rest u w → Closes rest → Wrote x u w
+half_end x rest u w f n =
+    let l : length x ≤ w.at - u.at = omega (arith, ap length (f.left ∙ closes_in rest n), length-drop (w.at - u.at) x) in
+    rw (take_all (w.at - u.at) x l) at f.wrote
 
-module _ (x rest b m : List ℕ) (at e y : ℕ) (further : List ℕ) (room : at + length x ≤ length b) (f : Half x rest b m at e) (said : Says rest y further) where
-  here : (e - at < length x) × ((take (suc (e - at)) x ≡ take (e - at) x ++ (y ∷ [])) × (drop (suc (e - at)) x ≡ in_quotes false further))
-  here = at_cons x (in_quotes false further) (e - at) y (f.left ∙ said_in rest y further said)
+module _ (x rest : List ℕ) (u v : Writer) (y : ℕ) (further : List ℕ) (room : HasRoom (length x) u) (f : Half x rest u v) (said : Says rest y further) where
+  here : (v.at - u.at < length x) × ((take (suc (v.at - u.at)) x ≡ take (v.at - u.at) x ++ (y ∷ [])) × (drop (suc (v.at - u.at)) x ≡ in_quotes false further))
+  here = at_cons x (in_quotes false further) (v.at - u.at) y (f.left ∙ said_in rest y further said)
 
-  pub half_room : e + 1 ≤ length m
-  half_room = omega (arith, here.0, f.from, f.kept)
+  pub half_room : HasRoom 1 v
+  half_room = omega (arith, here.0, f.from, f.wrote.keeps)
 
-  pub half_turn : (a : List ℕ) (e' : ℕ) → Written e (y ∷ []) m a e' → length a ≡ length m → Half x further b a at e'
-  half_turn a e' v l =
-      let q : e' - at ≡ suc (e - at) = omega (arith, v.next_is, f.from) in
-      let r : length (take (e - at) x) ≡ e - at = length-take-le (e - at) x (omega (arith, here.0)) in
+  pub half_turn : (w : Writer) → Wrote (y ∷ []) v w → Half x further u w
+  half_turn w a =
+      let q : w.at - u.at ≡ suc (v.at - u.at) = omega (arith, a.next_is, f.from) in
+      let r : length (take (v.at - u.at) x) ≡ v.at - u.at = length-take-le (v.at - u.at) x (omega (arith, here.0)) in
       record {
-        from = omega (arith, v.next_is, f.from);
-        written = rw (q, here.1.0) (written_then at e e' (take (e - at) x) (y ∷ []) b m a (omega (arith, here.0)) f.written v);
+        from = omega (arith, a.next_is, f.from);
+        wrote = rw (q, here.1.0) (wrote_then (take (v.at - u.at) x) (y ∷ []) u v w (omega (arith, here.0)) f.wrote a);
         left = rw q here.1.1;
-        kept = l ∙ f.kept;
       }

@@ -2,9 +2,11 @@
 #![tactic(auto)]
 
 ghost use Rattle.std.specs.Prelude.{◌≡◌, false, [], ◌∷◌, ◌+◌, ◌*◌, ◌≤◌, length, MatchOption};
-ghost use Rattle.text.specs.Inner.{Written};
+ghost use Rattle.text.specs.Writing.{HasRoom, Wrote, WroteWithin};
 ghost use Rattle.quotes.specs.Quotes.{in_quotes, behind_quotes, doubled};
 ghost use Rattle.quotes.specs.Inner.{Closes, Says};
+
+use text::Writer;
 
 const QUOTE: u8 = 0x22;
 
@@ -44,39 +46,36 @@ pub fn count(s: &[u8]) -> usize
     n
 }
 
-// The characters, written from a place on.
-pub fn characters(out: &mut [u8], at: usize, s: &[u8]) -> usize
-    requires { at + length (in_quotes false s.now) ≤ length out.old }
-    ensures { Written at (in_quotes false s.now) out.old out.new result }
+// The characters, written.
+pub fn characters(w: &mut Writer, s: &[u8])
+    requires { HasRoom (length (in_quotes false s.now)) w.old }
+    ensures { Wrote (in_quotes false s.now) w.old w.new }
 {
-    let mut n = at;
     let mut rest = s;
     while let Some((b, further)) = next(rest) {
-        n = text::byte(out, n, b);
+        w.byte(b);
         rest = further;
     }
-    n
 }
 
 // One character as it stands between quotes.
-fn character(out: &mut [u8], at: usize, b: u8) -> usize
-    requires { at + 2 ≤ length out.old }
-    ensures { Written at (doubled (b ∷ [])) out.old out.new result }
+fn character(w: &mut Writer, b: u8)
+    requires { HasRoom 2 w.old }
+    ensures { Wrote (doubled (b ∷ [])) w.old w.new }
 {
     if b == QUOTE {
-        return text::bytes(out, at, b"\"\"");
+        w.bytes(b"\"\"");
+        return;
     }
-    text::byte(out, at, b)
+    w.byte(b);
 }
 
 // Characters as they stand between quotes, each quote doubled.
-pub fn double(out: &mut [u8], at: usize, s: &[u8]) -> usize
-    requires { at + 2 * length s.now ≤ length out.old }
-    ensures { (Written at (doubled s.now) out.old out.new result) × (result ≤ at + 2 * length s.now) }
+pub fn double(w: &mut Writer, s: &[u8])
+    requires { HasRoom (2 * length s.now) w.old }
+    ensures { WroteWithin (2 * length s.now) (doubled s.now) w.old w.new }
 {
-    let mut e = at;
     for b in s {
-        e = character(out, e, *b);
+        character(w, *b);
     }
-    e
 }

@@ -2,13 +2,15 @@
 // The definitions stand in specs/RecordLine.antt; specs/Inner.antt has how long a line can be.
 #![tactic(auto)]
 
-ghost use Rattle.std.specs.Prelude.{◌≡◌, [], ◌∷◌, ◌++◌, ◌+◌, ◌*◌, ◌≤◌, length};
-ghost use Rattle.text.specs.Inner.{Short, Within};
+ghost use Rattle.std.specs.Prelude.{◌≡◌, [], ◌∷◌, ◌++◌, ◌+◌, ◌*◌, length};
+ghost use Rattle.text.specs.Inner.{Short};
+ghost use Rattle.text.specs.Writing.{HasRoom, WroteWithin};
 ghost use Rattle.records.specs.Record.{circuit_in, flags_in};
 ghost use Rattle.record_line.specs.RecordLine.{number_and_label, characters_of, trace_and_flags, line_of, lines_from};
 ghost use Rattle.record_line.specs.Inner.{characters_most, line_most};
 
 use records::{Kind, Record};
+use text::Writer;
 
 // What a line has between its fields, before and behind the trace, and whether each quote in the trace is doubled.
 #[derive(Clone, Copy)]
@@ -34,57 +36,56 @@ fn flags(r: Record) -> u64
 }
 
 // A record's number and label.
-fn number_and_label(form: Form, out: &mut [u8], at: usize, r: Record) -> usize
-    requires { at + 8 ≤ length out.old }
-    ensures { Within 8 at (number_and_label form r.entry.bytes.now) out.old out.new result }
+fn number_and_label(form: Form, w: &mut Writer, r: Record)
+    requires { HasRoom 8 w.old }
+    ensures { WroteWithin 8 (number_and_label form r.entry.bytes.now) w.old w.new }
 {
-    let a = text::decimal(out, at, circuit(r));
-    let b = text::byte(out, a, form.between);
-    text::hex(out, b, r.label())
+    w.decimal(circuit(r));
+    w.byte(form.between);
+    w.hex(r.label());
 }
 
 // The 15 characters of a trace.
-fn characters(form: Form, out: &mut [u8], at: usize, t: &[u8]) -> usize
-    requires { (length t.now ≡ 15) × (at + characters_most form ≤ length out.old) }
-    ensures { Within (characters_most form) at (characters_of form t.now) out.old out.new result }
+fn characters(form: Form, w: &mut Writer, t: &[u8])
+    requires { (length t.now ≡ 15) × HasRoom (characters_most form) w.old }
+    ensures { WroteWithin (characters_most form) (characters_of form t.now) w.old w.new }
 {
     if form.doubles {
-        return quotes::double(out, at, t);
+        quotes::double(w, t);
+        return;
     }
-    text::bytes(out, at, t)
+    w.bytes(t);
 }
 
 // A record's trace and flags.
-fn trace_and_flags(form: Form, out: &mut [u8], at: usize, r: Record) -> usize
-    requires { at + (characters_most form + 6) ≤ length out.old }
-    ensures { Within (characters_most form + 6) at (trace_and_flags form r.entry.bytes.now) out.old out.new result }
+fn trace_and_flags(form: Form, w: &mut Writer, r: Record)
+    requires { HasRoom (characters_most form + 6) w.old }
+    ensures { WroteWithin (characters_most form + 6) (trace_and_flags form r.entry.bytes.now) w.old w.new }
 {
-    let a = text::byte(out, at, form.opening);
-    let b = characters(form, out, a, r.trace());
-    let c = text::byte(out, b, form.closing);
-    let d = text::byte(out, c, form.between);
-    text::decimal(out, d, flags(r))
+    w.byte(form.opening);
+    characters(form, w, r.trace());
+    w.byte(form.closing);
+    w.byte(form.between);
+    w.decimal(flags(r));
 }
 
 // A record's line, with its LF.
-fn line(form: Form, out: &mut [u8], at: usize, r: Record) -> usize
-    requires { at + line_most form ≤ length out.old }
-    ensures { Within (line_most form) at (line_of form r.entry.bytes.now ++ (0x0a ∷ [])) out.old out.new result }
+fn line(form: Form, w: &mut Writer, r: Record)
+    requires { HasRoom (line_most form) w.old }
+    ensures { WroteWithin (line_most form) (line_of form r.entry.bytes.now ++ (0x0a ∷ [])) w.old w.new }
 {
-    let a = number_and_label(form, out, at, r);
-    let b = text::byte(out, a, form.between);
-    let c = trace_and_flags(form, out, b, r);
-    text::byte(out, c, 0x0a)
+    number_and_label(form, w, r);
+    w.byte(form.between);
+    trace_and_flags(form, w, r);
+    w.byte(0x0a);
 }
 
 // The lines of the n records of a file.
-pub fn lines(form: Form, kind: Kind, out: &mut [u8], at: usize, s: &[u8], n: usize) -> usize
-    requires { (length s.now ≡ kind.length * n) × (at + line_most form * n ≤ length out.old) }
-    ensures { Within (line_most form * n) at (lines_from form kind s.now 0 n) out.old out.new result }
+pub fn lines(form: Form, kind: Kind, w: &mut Writer, s: &[u8], n: usize)
+    requires { (length s.now ≡ kind.length * n) × HasRoom (line_most form * n) w.old }
+    ensures { WroteWithin (line_most form * n) (lines_from form kind s.now 0 n) w.old w.new }
 {
-    let mut e = at;
     for k in 0..n {
-        e = line(form, out, e, kind.record_at(s, k));
+        line(form, w, kind.record_at(s, k));
     }
-    e
 }

@@ -1,15 +1,17 @@
 -- What the pieces of a refusal's line come to.
-use mathlib.Core.Path.{◌≡◌, sym}
-use mathlib.Core.List.{List, [], ◌∷◌, append_assoc, append-nil}
-use Prim.Native.Nat.{ℕ, ◌+◌, ◌≤◌}
+use mathlib.Core.Path.{◌≡◌, refl, sym}
+use mathlib.Core.List.{List, [], ◌∷◌, ◌++◌, append_assoc, append-nil}
+use Prim.Native.Nat.{ℕ, ◌<◌, ◌≤◌}
 use native.Mathlib.Omega.{arith}
 use lib.ListN.{length, take}
-use lib.Seq.{take_all, length-take-le}
+use lib.Seq.{length-take-le}
 use Rattle.text.specs.Text.{decimal_of}
-use Rattle.text.specs.Inner.{Written, Short, Within}
+use Rattle.text.specs.Inner.{Short, Within}
+use Rattle.text.specs.declared.Writer.{Writer}
+use Rattle.text.specs.Writing.{HasRoom, Wrote, WroteWithin}
 use Rattle.text.proofs.Digits.{length_most}
-use Rattle.text.proofs.Pieces.{length_written, written_none}
-use Rattle.text.proofs.Within.{within, within_number, within_then}
+use Rattle.text.proofs.Pieces.{wrote_none}
+use Rattle.text.proofs.Within.{begun_within, byte_short, wider, within, within_number, within_then}
 use Rattle.records.specs.declared.Places.{Places}
 use Rattle.records.specs.declared.Places.TheVariants.{Nowhere, One, Two}
 use Rattle.records.specs.Refusals.{places_in}
@@ -17,38 +19,60 @@ use Rattle.refusal_line.specs.RefusalLine.{blank_before, refusal_line}
 
 -- ---- a place
 
-module _ (b m : List ℕ) (at i p : ℕ) (h : at + 21 ≤ length b) (w : Written at (0x20 ∷ []) b m i) where
-  pub place_fits : i + length (decimal_of p) ≤ length m
-  place_fits = omega (arith, length_most p, w.next_is, length_written at i (0x20 ∷ []) b m (omega arith) w)
+module _ (u v : Writer) (p : ℕ) (h : HasRoom 21 u) (x : Wrote (0x20 ∷ []) u v) where
+  pub place_fits : HasRoom (length (decimal_of p)) v
+  place_fits = omega (arith, length_most p, x.next_is, x.keeps)
 
-  pub place_within : (a : List ℕ) (n : ℕ) → Written i (decimal_of p) m a n → Within 21 at (0x20 ∷ decimal_of p) b a n
-  place_within a n v = within_then (within 1 w (omega arith)) (within 20 v (length_most p)) (omega arith)
+  pub place_within : (w : Writer) → Wrote (decimal_of p) v w → WroteWithin 21 (0x20 ∷ decimal_of p) u w
+  place_within w y = within_then (within 1 x (omega arith)) (within 20 y (length_most p)) (omega arith)
 
 -- ---- no place, one, and two
 
-module _ (b : List ℕ) (p : Places) (at : ℕ) where
-  pub places_none : p ≡ Nowhere → Within 42 at (blank_before (places_in p)) b b at
+module _ (u : Writer) (p : Places) where
+  pub places_none : p ≡ Nowhere → WroteWithin 42 (blank_before (places_in p)) u u
   unfolding blank_before
-  places_none e = rw e (within 42 (written_none at b) (omega arith))
+  places_none e = rw e (within 42 (wrote_none u) (omega arith))
 
-  pub places_one : (first : ℕ) (a : List ℕ) (n : ℕ) → p ≡ One first → Within 21 at (0x20 ∷ decimal_of first) b a n → Within 42 at (blank_before (places_in p)) b a n
+  pub places_one : (first : ℕ) (w : Writer) → p ≡ One first → WroteWithin 21 (0x20 ∷ decimal_of first) u w → WroteWithin 42 (blank_before (places_in p)) u w
   unfolding blank_before
-  places_one first a n e w = rw (e, append-nil) (record { written = w.written; short = omega arith })
+  places_one first w e x = rw (e, append-nil) (wider 42 (omega arith) x)
 
-  pub places_two : (first second : ℕ) (m a : List ℕ) (i n : ℕ) → p ≡ Two first second → at + 42 ≤ length b
-      → Within 21 at (0x20 ∷ decimal_of first) b m i → Within 21 i (0x20 ∷ decimal_of second) m a n → Within 42 at (blank_before (places_in p)) b a n
+  pub places_two : (first second : ℕ) (v w : Writer) → p ≡ Two first second → HasRoom 42 u
+      → WroteWithin 21 (0x20 ∷ decimal_of first) u v → WroteWithin 21 (0x20 ∷ decimal_of second) v w → WroteWithin 42 (blank_before (places_in p)) u w
   unfolding blank_before
-  places_two first second m a i n e h w v = rw (e, append-nil) (within_then w v (omega arith))
+  places_two first second v w e h x y = rw (e, append-nil) (within_then x y (omega arith))
 
--- ---- the line
+-- ---- the line, y being the number as it was read
 
-pub refusal_written : (number : ℕ) (p : Places) (b m m' a : List ℕ) (i j n y : ℕ) → 46 ≤ length b → Short 3 number y
-    → Written 0 (decimal_of y) b m i → Within 42 i (blank_before (places_in p)) m m' j → Written j (0x0a ∷ []) m' a n
-    → Within 46 0 (refusal_line number (places_in p)) b a n
-unfolding refusal_line
-refusal_written number p b m m' a i j n y h s w v u =
-    let wv = within_then (within_number s w) v (omega arith) in
-    rw append_assoc at (within_then wv (within 1 u (omega arith)) (omega arith))
+module _ (b : List ℕ) (number y : ℕ) (p : Places) (t u v : Writer) (e : y ≡ number) (f : number < 256) (h : 46 ≤ length b) (held : t.out.now ≡ b) (start : t.at ≡ 0) where
+  begun : HasRoom 46 t
+  begun = let l : 46 ≤ length t.out.now = rw held h in omega (arith, start)
+
+  short : Short 3 number y
+  short = byte_short number number y e refl (rw e f)
+
+  pub number_fits : HasRoom (length (decimal_of y)) t
+  number_fits = omega (arith, short.short, begun)
+
+  module _ (x : Wrote (decimal_of y) t u) where
+    numbered : WroteWithin 3 (decimal_of number) t u
+    numbered = within_number short x
+
+    pub places_fit : HasRoom 42 u
+    places_fit = omega (arith, begun, numbered.short, numbered.keeps)
+
+    module _ (z : WroteWithin 42 (blank_before (places_in p)) u v) where
+      placed : WroteWithin 45 (decimal_of number ++ blank_before (places_in p)) t v
+      placed = within_then numbered z (omega (arith, begun))
+
+      pub end_fits : HasRoom 1 v
+      end_fits = omega (arith, begun, placed.short, placed.keeps)
+
+      pub refusal_written : (w : Writer) → Wrote (0x0a ∷ []) v w → Within 46 0 (refusal_line number (places_in p)) b w.out.now w.at
+      unfolding refusal_line
+      refusal_written w a =
+          let whole : WroteWithin 46 (decimal_of number ++ (blank_before (places_in p) ++ (0x0a ∷ []))) t w = rw append_assoc at (within_then placed (within 1 a (omega arith)) (omega (arith, begun))) in
+          begun_within 46 (decimal_of number ++ (blank_before (places_in p) ++ (0x0a ∷ []))) b t w held start whole
 
 -- what a caller takes out of a buffer that just holds it is there
 pub line_part : (p b a : List ℕ) (n : ℕ) → Within 46 0 p b a n → length a ≡ 46 → n ≡ length (take n a)

@@ -8,8 +8,9 @@ use lib.Dec.{leb}
 use lib.ListN.{length, take, drop, replicate, length-append, length-replicate}
 use borrow.Author.Tests.{leb-true}
 use Rattle.laws.proofs.Tests.{and_left, and_right}
-use Rattle.text.specs.Inner.{Written}
-use Rattle.text.proofs.Pieces.{written_then, length_written}
+use Rattle.text.specs.declared.Writer.{Writer}
+use Rattle.text.specs.Writing.{HasRoom, Wrote}
+use Rattle.text.proofs.Pieces.{wrote_then}
 use Rattle.split.specs.Split.{up_to}
 use Rattle.digits.specs.Digits.{is_number, digits_only, value_from, is_label, label_value}
 use Rattle.quotes.specs.Quotes.{in_quotes}
@@ -79,15 +80,14 @@ label_asked s l w e = rw e w.label_is
 
 -- ---- the front
 
-module _ (s n l b m₁ m₂ m₃ a : List ℕ) (at i j k e v x : ℕ) (room : at + 5 ≤ length b) (is-n : n ≡ up_to comma s) (is-v : v ≡ value_from 0 n)
+module _ (s n l : List ℕ) (v x : ℕ) (t u₁ u₂ u₃ w : Writer) (room : HasRoom 5 t) (is-n : n ≡ up_to comma s) (is-v : v ≡ value_from 0 n)
     (is-l : l ≡ label_field s) (is_x : x ≡ label_value l) where
-  pub front_written : Written at (0x5a ∷ 0x4d ∷ []) b m₁ i → Written i (v / 256 ∷ []) m₁ m₂ j → Written j (v % 256 ∷ []) m₂ m₃ k → Written k (x ∷ []) m₃ a e
-      → Written at (front_of s) b a e
+  pub front_written : Wrote (0x5a ∷ 0x4d ∷ []) t u₁ → Wrote (v / 256 ∷ []) u₁ u₂ → Wrote (v % 256 ∷ []) u₂ u₃ → Wrote (x ∷ []) u₃ w → Wrote (front_of s) t w
   unfolding front_of number_field
   front_written w₁ w₂ w₃ w₄ =
-      let p = written_then at i j (0x5a ∷ 0x4d ∷ []) (v / 256 ∷ []) b m₁ m₂ (omega arith) w₁ w₂ in
-      let q = written_then at j k (0x5a ∷ 0x4d ∷ v / 256 ∷ []) (v % 256 ∷ []) b m₂ m₃ (omega arith) p w₃ in
-      let r = written_then at k e (0x5a ∷ 0x4d ∷ v / 256 ∷ v % 256 ∷ []) (x ∷ []) b m₃ a (omega arith) q w₄ in
+      let p = wrote_then (0x5a ∷ 0x4d ∷ []) (v / 256 ∷ []) t u₁ u₂ (omega arith) w₁ w₂ in
+      let q = wrote_then (0x5a ∷ 0x4d ∷ v / 256 ∷ []) (v % 256 ∷ []) t u₂ u₃ (omega arith) p w₃ in
+      let r = wrote_then (0x5a ∷ 0x4d ∷ v / 256 ∷ v % 256 ∷ []) (x ∷ []) t u₃ w (omega arith) q w₄ in
       rw (← is-n, ← is-v, ← is-l, ← is_x) r
 
 -- ---- the trace
@@ -97,30 +97,29 @@ take_replicate n zero x h = refl
 take_replicate zero (suc k) x h = absurd (omega arith)
 take_replicate (suc n) (suc k) x h = ap (λ (l : List ℕ). x ∷ l) (take_replicate n k x (omega arith))
 
-module _ (s t b : List ℕ) (at k : ℕ) (w : Sound s) (is-t : t ≡ drop 1 (trace_on s)) where
+module _ (s t : List ℕ) (k : ℕ) (ok : Sound s) (is-t : t ≡ drop 1 (trace_on s)) where
   said : in_quotes false t ≡ characters s
   unfolding characters
   said = rw is-t
 
   pub trace_few : k ≡ length (in_quotes false t) → k ≤ 15
-  trace_few e = omega (arith, ap length said, w.short)
+  trace_few e = omega (arith, ap length said, ok.short)
 
-  module _ (room : at + 15 ≤ length b) where
-    pub trace_room : at + length (in_quotes false t) ≤ length b
-    trace_room = omega (arith, ap length said, w.short)
+  module _ (u : Writer) (room : HasRoom 15 u) where
+    pub trace_room : HasRoom (length (in_quotes false t)) u
+    trace_room = omega (arith, ap length said, ok.short)
 
-    module _ (m : List ℕ) (i : ℕ) (is-k : k ≡ length (in_quotes false t)) (w₁ : Written at (in_quotes false t) b m i) where
-      pub spaces_room : i + (15 - k) ≤ length m
-      spaces_room = omega (arith, trace_few is-k, w₁.next_is, length_written at i (in_quotes false t) b m trace_room w₁)
-
-      pub spaces_asked : i + length {A = ℕ} (take (15 - k) (replicate 15 0x20)) ≤ length m
-      spaces_asked = let q = take_replicate 15 (15 - k) 0x20 (omega arith) in omega (arith, spaces_room, ap length q, length-replicate {A = ℕ} (15 - k) 0x20)
-
-      pub trace_written : (a : List ℕ) (e : ℕ) → Written i (take (15 - k) (replicate 15 0x20)) m a e → Written at (padded (characters s)) b a e
-      unfolding padded
-      trace_written a e w₂ =
+    module _ (v : Writer) (is-k : k ≡ length (in_quotes false t)) (w₁ : Wrote (in_quotes false t) u v) where
+      pub spaces_asked : HasRoom (length {A = ℕ} (take (15 - k) (replicate 15 0x20))) v
+      spaces_asked =
           let q = take_replicate 15 (15 - k) 0x20 (omega arith) in
-          rw (← said, ← is-k) (written_then at i e (in_quotes false t) (replicate (15 - k) 0x20) b m a trace_room w₁ (rw q at w₂))
+          omega (arith, trace_few is-k, w₁.next_is, w₁.keeps, ap length q, length-replicate {A = ℕ} (15 - k) 0x20)
+
+      pub trace_written : (w : Writer) → Wrote (take (15 - k) (replicate 15 0x20)) v w → Wrote (padded (characters s)) u w
+      unfolding padded
+      trace_written w w₂ =
+          let q = take_replicate 15 (15 - k) 0x20 (omega arith) in
+          rw (← said, ← is-k) (wrote_then (in_quotes false t) (replicate (15 - k) 0x20) u v w trace_room w₁ (rw q at w₂))
 
 -- ---- the record
 
@@ -128,25 +127,20 @@ pub padded_length : (t : List ℕ) → length t ≤ 15 → length (padded t) ≡
 unfolding padded
 padded_length t h = simp (length-append, length-replicate) (omega arith)
 
-module _ (s b m : List ℕ) (at i : ℕ) (w : Sound s) (room : at + 21 ≤ length b) (w₁ : Written at (front_of s) b m i) where
-  front_next : (i ≡ at + 5) × (length m ≡ length b)
+module _ (s : List ℕ) (t u : Writer) (ok : Sound s) (room : HasRoom 21 t) (w₁ : Wrote (front_of s) t u) where
+  front_next : (u.at ≡ t.at + 5) × (length u.out.now ≡ length t.out.now)
   unfolding front_of
-  front_next = (w₁.next_is, length_written at i (front_of s) b m (omega arith) w₁)
+  front_next = (w₁.next_is, w₁.keeps)
 
-  pub trace_fits : i + 15 ≤ length m
+  pub trace_fits : HasRoom 15 u
   trace_fits = omega (arith, front_next)
 
-  module _ (m' : List ℕ) (j : ℕ) (w₂ : Written i (padded (characters s)) m m' j) where
-    trace_next : (j ≡ i + 15) × (length m' ≡ length m)
-    trace_next =
-        let p = padded_length (characters s) w.short in
-        (omega (arith, w₂.next_is), length_written i j (padded (characters s)) m m' (omega (arith, front_next)) w₂)
+  module _ (v : Writer) (w₂ : Wrote (padded (characters s)) u v) where
+    pub flags_fits : HasRoom 1 v
+    flags_fits = omega (arith, front_next, padded_length (characters s) ok.short, w₂.next_is, w₂.keeps)
 
-    pub flags_fits : j + 1 ≤ length m'
-    flags_fits = omega (arith, front_next, trace_next)
-
-    pub record_written : (a : List ℕ) (e x : ℕ) → x ≡ value_from 0 (flags_field s) → Written j (x ∷ []) m' a e → Written at (record_of s) b a e
+    pub record_written : (w : Writer) (x : ℕ) → x ≡ value_from 0 (flags_field s) → Wrote (x ∷ []) v w → Wrote (record_of s) t w
     unfolding record_of
-    record_written a e x is_x w₃ =
-        let p = written_then i j e (padded (characters s)) (x ∷ []) m m' a (omega (arith, front_next, padded_length (characters s) w.short)) w₂ w₃ in
-        rw (← is_x) (written_then at i e (front_of s) (padded (characters s) ++ (x ∷ [])) b m a (omega (arith, front_next, w₁.next_is)) w₁ p)
+    record_written w x is_x w₃ =
+        let p = wrote_then (padded (characters s)) (x ∷ []) u v w (omega (arith, front_next, padded_length (characters s) ok.short)) w₂ w₃ in
+        rw (← is_x) (wrote_then (front_of s) (padded (characters s) ++ (x ∷ [])) t u w (omega (arith, front_next, w₁.next_is)) w₁ p)

@@ -2,11 +2,13 @@
 // How a line is written stands in specs/Grammar.antt, how it is taken apart in specs/Line.antt.
 #![tactic(auto)]
 
-ghost use Rattle.std.specs.Prelude.{◌≡◌, ◌+◌, ◌<◌, ◌≤◌, length, drop};
-ghost use Rattle.text.specs.Inner.{Written};
+ghost use Rattle.std.specs.Prelude.{◌≡◌, drop};
+ghost use Rattle.text.specs.Writing.{HasRoom, Wrote};
 ghost use Rattle.digits.specs.Digits.{value_from};
 ghost use Rattle.sheet_line.specs.Line.{number_field, label_field, trace_on, quoted, characters, behind_comma, flags_field, well_formed, line_faults, line_judged, padded, front_of, record_of};
 ghost use Rattle.sheet_line.specs.Inner.{Sound};
+
+use text::Writer;
 
 // What may be wrong with a line, in the order in which it is looked for.
 #[derive(Clone, Copy, PartialEq, Eq)]
@@ -100,28 +102,27 @@ struct Line<'a> {
 
 impl<'a> Line<'a> {
     // The mark, the number and the label of its record.
-    fn front(self, out: &mut [u8], at: usize) -> usize
-        requires { at + 5 ≤ length out.old }
-        ensures { Written at (front_of self.entry.bytes.now) out.old out.new result }
+    fn front(self, w: &mut Writer)
+        requires { HasRoom 5 w.old }
+        ensures { Wrote (front_of self.entry.bytes.now) w.old w.new }
     {
         let v = digits::value(split::before(self.bytes, COMMA));
-        let a = text::bytes(out, at, b"ZM");
-        let b = text::byte(out, a, (v / 256) as u8);
-        let c = text::byte(out, b, (v % 256) as u8);
-        text::byte(out, c, digits::label(label_field(self.bytes)))
+        w.bytes(b"ZM");
+        w.byte((v / 256) as u8);
+        w.byte((v % 256) as u8);
+        w.byte(digits::label(label_field(self.bytes)));
     }
 
     // The characters of its trace, with spaces up to 15.
-    fn trace(self, out: &mut [u8], at: usize) -> usize
-        requires { at + 15 ≤ length out.old }
-        ensures { Written at (padded (characters self.entry.bytes.now)) out.old out.new result }
+    fn trace(self, w: &mut Writer)
+        requires { HasRoom 15 w.old }
+        ensures { Wrote (padded (characters self.entry.bytes.now)) w.old w.new }
     {
         let spaces = [0x20u8; 15];
         let t = inside(self.bytes);
         let k = quotes::count(t);
-        let a = quotes::characters(out, at, t);
-        let m = 15 - k;
-        text::bytes(out, a, &spaces[..m])
+        quotes::characters(w, t);
+        w.bytes(&spaces[..15 - k]);
     }
 
     // Its flags.
@@ -132,13 +133,13 @@ impl<'a> Line<'a> {
     }
 }
 
-// The record that a line says, where nothing is wrong with it, written from a place on.
-pub fn record(out: &mut [u8], at: usize, s: &[u8]) -> usize
-    requires { (Sound s.now) × (at + 21 ≤ length out.old) }
-    ensures { Written at (record_of s.now) out.old out.new result }
+// The record that a line says, where nothing is wrong with it, written.
+pub fn record(w: &mut Writer, s: &[u8])
+    requires { (Sound s.now) × HasRoom 21 w.old }
+    ensures { Wrote (record_of s.now) w.old w.new }
 {
     let line = Line { bytes: s };
-    let a = line.front(out, at);
-    let b = line.trace(out, a);
-    text::byte(out, b, line.flags())
+    line.front(w);
+    line.trace(w);
+    w.byte(line.flags());
 }

@@ -1,12 +1,12 @@
--- `importing::first_fault` meets its contract: nothing is wrong with the lines before the place, so the others decide. Assumes nothing.
+-- `importing::first_fault` meets its contract: nothing is wrong with the lines before the rest, so the others decide. Assumes nothing.
 use mathlib.Core.Path.{◌≡◌}
-use Prim.Native.Nat.{◌+◌, ◌-◌, ◌≤◌}
-use lib.ListN.{length, drop}
+use Prim.Native.Nat.{◌+◌, ◌≤◌}
+use lib.ListN.{length}
 use Rattle.importing.specs.Import.{lines_of, faults_from, first_of}
 use Rattle.importing.proofs.first_fault.Given as goal
 
-abbrev pub invariant-loop-at : goal.invariant-loop-at
-invariant-loop-at l = (l.at ≤ length l.s + 1) × ((l.k ≤ l.at) × (first_of (faults_from l.k (lines_of (drop l.at l.s))) ≡ first_of (faults_from 0 (lines_of l.s))))
+abbrev pub invariant-loop-line : goal.invariant-loop-line
+invariant-loop-line l = (l.k + length l.rest ≤ length l.s) × (first_of (faults_from l.k (lines_of l.rest)) ≡ first_of (faults_from 0 (lines_of l.s)))
 
-abbrev pub decreases-loop-at : goal.decreases-loop-at
-decreases-loop-at l = length l.s + 1 - l.at
+abbrev pub decreases-loop-line : goal.decreases-loop-line
+decreases-loop-line l = length l.rest

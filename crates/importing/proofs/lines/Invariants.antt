@@ -1,12 +1,12 @@
 -- `importing::lines` meets its contract: the lines counted, with those of the rest, are all. Assumes nothing.
 use mathlib.Core.Path.{◌≡◌}
-use Prim.Native.Nat.{◌+◌, ◌-◌, ◌≤◌}
-use lib.ListN.{length, drop}
+use Prim.Native.Nat.{◌+◌, ◌≤◌}
+use lib.ListN.{length}
 use Rattle.importing.specs.Import.{lines_of}
 use Rattle.importing.proofs.lines.Given as goal
 
-abbrev pub invariant-loop-at : goal.invariant-loop-at
-invariant-loop-at l = (l.at ≤ length l.s + 1) × ((l.n ≤ l.at) × (l.n + length (lines_of (drop l.at l.s)) ≡ length (lines_of l.s)))
+abbrev pub invariant-loop-further : goal.invariant-loop-further
+invariant-loop-further l = (l.n + length l.rest ≤ length l.s) × (l.n + length (lines_of l.rest) ≡ length (lines_of l.s))
 
-abbrev pub decreases-loop-at : goal.decreases-loop-at
-decreases-loop-at l = length l.s + 1 - l.at
+abbrev pub decreases-loop-further : goal.decreases-loop-further
+decreases-loop-further l = length l.rest

@@ -7,14 +7,14 @@ use Rattle.quotes.proofs.characters.Goals as goal
 pub loop-b-init : goal.loop-b-init
 loop-b-init c = search half_start
 
-pub byte-n-requires : goal.byte-n-requires
-byte-n-requires c = half_room _ _ _ _ _ _ _ _ c.requires c.loop-b.invariant c.in-Some.ensures
+pub byte-requires : goal.byte-requires
+byte-requires c = half_room _ _ _ _ _ _ c.requires c.loop-b.invariant c.in-Some.ensures
 
 pub loop-b-smaller : goal.loop-b-smaller
 loop-b-smaller c = omega (arith, said_less _ _ _ c.in-Some.ensures)
 
 pub loop-b-preserved : goal.loop-b-preserved
-loop-b-preserved c = half_turn _ _ _ _ _ _ _ _ c.requires c.loop-b.invariant c.in-Some.ensures _ _ c.byte-n.ensures (omega arith)
+loop-b-preserved c = half_turn _ _ _ _ _ _ c.requires c.loop-b.invariant c.in-Some.ensures _ c.byte.ensures
 
 pub returns : goal.returns
-returns c = half_end _ _ _ _ _ _ c.loop-b.invariant c.in_default.ensures
+returns c = half_end _ _ _ _ c.loop-b.invariant c.in_default.ensures

@@ -6,7 +6,7 @@ use Rattle.quotes.proofs.Inside.{Half}
 use Rattle.quotes.proofs.characters.Given as goal
 
 abbrev pub invariant-loop-b : goal.invariant-loop-b
-invariant-loop-b l = Half (in_quotes false l.s) l.rest l.initial.out l.out l.at l.n
+invariant-loop-b l = Half (in_quotes false l.s) l.rest l.initial.w l.w
 
 abbrev pub decreases-loop-b : goal.decreases-loop-b
 decreases-loop-b l = length l.rest

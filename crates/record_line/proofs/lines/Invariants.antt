@@ -1,11 +1,9 @@
 -- `record_line::lines` meets its contract: after k turns the lines of the first k records are written. Assumes nothing.
-use mathlib.Core.Path.{◌≡◌}
 use Prim.Native.Nat.{◌*◌}
-use lib.ListN.{length}
 use Rattle.record_line.specs.RecordLine.{lines_from}
-use Rattle.text.specs.Inner.{Within}
+use Rattle.text.specs.Writing.{WroteWithin}
 use Rattle.record_line.specs.Inner.{line_most}
 use Rattle.record_line.proofs.lines.Given as goal
 
 abbrev pub invariant-loop-k : goal.invariant-loop-k
-invariant-loop-k l = (length l.out ≡ length l.initial.out) × Within (line_most l.form * l.k) l.at (lines_from l.form l.kind l.s 0 l.k) l.initial.out l.out l.e
+invariant-loop-k l = WroteWithin (line_most l.form * l.k) (lines_from l.form l.kind l.s 0 l.k) l.initial.w l.w

@@ -2,8 +2,8 @@
 use Rattle.sheet_line.proofs.Writing.{trace_fits, flags_fits, record_written}
 use Rattle.sheet_line.proofs.record.Goals as goal
 
-pub trace-b-requires : goal.trace-b-requires
-trace-b-requires c = search trace_fits
+pub trace-requires : goal.trace-requires
+trace-requires c = search trace_fits
 
 pub byte-requires : goal.byte-requires
 byte-requires c = search flags_fits

@@ -7,6 +7,6 @@ pub returns-then-d-lt10 : goal.returns-then-d-lt10
 unfolding hex_digit
 returns-then-d-lt10 c = search tests
 
-pub returns : goal.returns
+pub returns-else-d-lt10 : goal.returns-else-d-lt10
 unfolding hex_digit
-returns c = search tests
+returns-else-d-lt10 c = search tests

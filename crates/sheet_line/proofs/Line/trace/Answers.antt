@@ -4,8 +4,8 @@ use lib.ListN.{length-take, length-replicate}
 use native.Mathlib.Omega.{arith}
 use Rattle.sheet_line.proofs.Line.trace.Goals as goal
 
-pub characters-a-requires : goal.characters-a-requires
-characters-a-requires c = search trace_room
+pub characters-requires : goal.characters-requires
+characters-requires c = search trace_room
 
 pub overflow_sub-m : goal.overflow_sub-m
 overflow_sub-m c = search trace_few

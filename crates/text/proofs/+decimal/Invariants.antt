@@ -1,5 +1,0 @@
--- `text::decimal` ends: the number falls to its tenth.
-use Rattle.text.proofs.+decimal.Given as goal
-
-abbrev pub decreases-decimal : goal.decreases-decimal
-decreases-decimal l = l.n
