@@ -27,7 +27,7 @@ fn text_of(kind: Kind, out: &mut [u8], s: &[u8], n: usize) -> usize
     requires { (length s.now ≡ kind.length * n) × (46 * n ≤ length out.old) }
     ensures { Written 0 (lines_from sheet_form kind s.now 0 n) out.old out.new result }
 {
-    let mut w = Writer::new(out);
+    let mut w = Writer { out, at: 0 };
     record_line::lines(form(), kind, &mut w, s, n);
     w.at
 }

@@ -73,7 +73,7 @@ fn made_in(out: &mut [u8], s: &[u8]) -> usize
     requires { (Sounds (lines_of s.now)) × (21 * length (lines_of s.now) ≤ length out.old) }
     ensures { Written 0 (result_of s.now) out.old out.new result }
 {
-    let mut w = Writer::new(out);
+    let mut w = Writer { out, at: 0 };
     records_of(&mut w, s);
     w.at
 }

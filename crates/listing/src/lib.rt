@@ -29,7 +29,7 @@ fn good(kind: Kind, out: &mut [u8], s: &[u8], n: usize) -> usize
     requires { (length s.now ≡ kind.length * n) × (26 + 31 * n ≤ length out.old) }
     ensures { Written 0 (heading ++ lines_from listing_form kind s.now 0 n) out.old out.new result }
 {
-    let mut w = Writer::new(out);
+    let mut w = Writer { out, at: 0 };
     w.bytes(b"circuit label trace flags\n");
     record_line::lines(form(), kind, &mut w, s, n);
     w.at

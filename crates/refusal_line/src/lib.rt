@@ -41,7 +41,7 @@ pub fn write(out: &mut [u8], number: u8, p: Places) -> usize
     requires { 46 ≤ length out.old }
     ensures { Within 46 0 (refusal_line number (places_in p)) out.old out.new result }
 {
-    let mut w = Writer::new(out);
+    let mut w = Writer { out, at: 0 };
     w.decimal(u64::from(number));
     places(&mut w, p);
     w.byte(0x0a);

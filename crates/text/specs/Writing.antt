@@ -1,18 +1,11 @@
 -- What a writer's methods ask and leave. No rule of 01 stands here.
 use Rattle.std.specs.Prelude.{ℕ, ◌≡◌, ◌+◌, ◌≤◌, List, length}
-use Rattle.std.specs.Borrow.{MutBor}
 use Rattle.copier.specs.Put.{put}
 use Rattle.text.specs.declared.Writer.{Writer}
 
 -- there is room for so many bytes more
 abbrev pub HasRoom : ℕ → Writer → Type 0
 HasRoom n w = w.at + n ≤ length w.out.now
-
--- a writer has a lent buffer, and is at its start
-pub record Begins (lent : MutBor (List ℕ)) (w : Writer) : Type 0 where
-  pub same : w.out.ghost_name ≡ lent.ghost_name
-  pub held : w.out.now ≡ lent.now
-  pub start : w.at ≡ 0
 
 -- a piece was written where the writer was, into the same buffer
 pub record Wrote (piece : List ℕ) (old new : Writer) : Type 0 where
