@@ -62,8 +62,10 @@ TRIALS = [
             "parity::parity", "parity_determined", "`0`"),
     theorem("Received", "sink-fresh.r sink-fresh-promise.Post (λ κs r e. r)", "sink-fresh.r sink-fresh-promise.Post (λ κs r e. r.total)",
             "sink::fresh", "sink_fresh_determined", "`r.total`"),
-    theorem("Determined", "text-hex-promise.Post (λ κs r e. record { answer = r; buffer = e.0.now })", "text-hex-promise.Post (λ κs r e. e.0.now)",
-            "text::hex", "the answer, `r`,", "text_hex_determined"),
+    theorem("Determined", "text-writer-hex-promise.Post (λ κs r e. record { at = e.0.now.at; out = e.0.now.out.now })", "text-writer-hex-promise.Post (λ κs r e. e.0.now.at)",
+            "text::Writer::hex", "what `self.out.now` has at exit, `e.0.now.out.now`,", "text_writer_hex_determined"),
+    theorem("Determined", "refusal-line-write-promise.Post (λ κs r e. record { answer = r; buffer = e.0.now })", "refusal-line-write-promise.Post (λ κs r e. e.0.now)",
+            "refusal_line::write", "the answer, `r`,", "refusal_line_write_determined"),
     theorem("Determined", "records-record-trace-promise.Post (λ κs r e. r.now)", "records-record-trace-promise.Post (λ κs r e. a)",
             "records::Record::trace", "records_record_trace_determined", "`a`"),
     # a buffer left out; read at another's place; twice, and the other not; two of them run together

@@ -62,9 +62,11 @@ THEOREM = re.compile(r"[a-z0-9]+(?:_[a-z0-9]+)+")
 READING = re.compile(r"Determines \{O = [^{}]+\} \d+ (?P<ps>\S+)\.ps (?P<r>\S+)\.r (?P<post>\S+)\.Post \(λ κs r e\. (?P<read>.*)\)")
 GATHERED = re.compile(r"record \{ (.*) \}")
 # the answer, the bytes of one that is a slice, what a parameter has at exit
-READ = re.compile(r"r|r(?:\.bytes)?\.now|e(?:\.1)*\.0\.now")
+READ = re.compile(r"r|r(?:\.bytes)?\.now|e(?:\.1)*\.0\.now(?:\.at|\.out\.now)?")
 # structs that are a lent part and nothing else: the reading that has its bytes
 SHOWN = {"Record": "r.bytes.now"}
+# structs that are a lent buffer and the place in it: the parts of what one has at exit
+HELD = {"Writer": [".at", ".out.now"]}
 # a type of the code: whether it is lent, for writing, and what is
 LENT = re.compile(r"(?P<lent>&\s*(?:'\w+\s+)?(?P<writing>mut\b)?)?(?P<what>.*)", re.S)
 
@@ -218,8 +220,12 @@ def outcome_of(function):
     if result not in ("", "()"):
         yield "the answer", [SHOWN[result]] if result in SHOWN else ["r.now", "r"] if LENT.match(result)["lent"] else ["r"]
     for place, (name, kind) in enumerate(parameters):
-        if LENT.match(kind)["writing"]:
-            yield f"what `{name}` has at exit", [at_exit(place)]
+        lent = LENT.match(kind)
+        if lent["writing"]:
+            what = lent["what"].strip()
+            what = function.split("::")[-2] if what == "Self" else what
+            for part in HELD.get(what, [""]):
+                yield f"what `{name}{part}` has at exit", [at_exit(place) + part]
 
 
 def hidden(function):

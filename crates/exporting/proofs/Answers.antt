@@ -9,7 +9,7 @@ use Rattle.copier.specs.Put.{put}
 use Rattle.copier.proofs.Put.{length_piece, put_none}
 use Rattle.text.specs.Inner.{Written}
 use Rattle.text.specs.declared.Writer.{Writer}
-use Rattle.text.specs.Writing.{HasRoom, WroteWithin}
+use Rattle.text.specs.InnerWriting.{HasRoom, WroteWithin}
 use Rattle.text.proofs.Within.{begun, unbound}
 use Rattle.refusals.specs.Refusals.{Fault, said_by}
 use Rattle.refusals.proofs.Wrong.{Numbered}

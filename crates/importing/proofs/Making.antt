@@ -7,7 +7,7 @@ use native.Mathlib.Omega.{arith}
 use lib.ListN.{length, take, drop, length-append, length-drop}
 use lib.Seq.{take_all, take-add, drop-drop, take_at, drop_at, length-take-le}
 use Rattle.text.specs.declared.Writer.{Writer}
-use Rattle.text.specs.Writing.{HasRoom, Wrote}
+use Rattle.text.specs.InnerWriting.{HasRoom, Wrote}
 use Rattle.text.proofs.Pieces.{wrote_none, wrote_then}
 use Rattle.sheet_line.specs.Line.{front_of, characters, record_of}
 use Rattle.sheet_line.specs.Inner.{Sound}

@@ -4,7 +4,7 @@
 
 ghost use Rattle.std.specs.Prelude.{◌≡◌, [], ◌*◌, ◌≤◌, length, MatchOption};
 ghost use Rattle.text.specs.Inner.{Written};
-ghost use Rattle.text.specs.Writing.{HasRoom, Wrote};
+ghost use Rattle.text.specs.InnerWriting.{HasRoom, Wrote};
 ghost use Rattle.importing.specs.Import.{lines_of, most_lines, faults_from, first_of, result_of, Imports};
 ghost use Rattle.importing.specs.Inner.{Parts, Sounds, Made};
 

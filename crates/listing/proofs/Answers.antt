@@ -8,7 +8,7 @@ use lib.Seq.{length-take-le}
 use Rattle.copier.proofs.Put.{length_piece}
 use Rattle.text.specs.Inner.{Written, Within}
 use Rattle.text.specs.declared.Writer.{Writer}
-use Rattle.text.specs.Writing.{HasRoom, Wrote, WroteWithin}
+use Rattle.text.specs.InnerWriting.{HasRoom, Wrote, WroteWithin}
 use Rattle.text.proofs.Pieces.{wrote_then}
 use Rattle.text.proofs.Within.{begun, unbound}
 use Rattle.catalogue.specs.Catalogue.{Checks}

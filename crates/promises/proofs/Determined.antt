@@ -11,7 +11,6 @@ use Rattle.std.specs.Prelude.{Result, ⊤}
 use Rattle.refusals.specs.declared.Refusal.{Refusal}
 use Rattle.refusals.specs.declared.TraceFault.{TraceFault}
 use Rattle.settings.specs.declared.Flags.{Flags}
-use Rattle.text.specs.Inner.{Written}
 use Rattle.word.specs.declared.Ndf.{Ndf}
 use Rattle.sheet_line.specs.declared.LineFault.{LineFault}
 use Rattle.records.specs.declared.Kind.{Kind}
@@ -112,14 +111,14 @@ use Rattle.records.proofs.Record.circuit.Kinds as records-record-circuit
 use Rattle.records.proofs.Record.circuit.Reads as records-record-circuit-promise
 use Rattle.records.proofs.Record.trace.Kinds as records-record-trace
 use Rattle.records.proofs.Record.trace.Reads as records-record-trace-promise
-use Rattle.text.proofs.bytes.Kinds as text-bytes
-use Rattle.text.proofs.bytes.Reads as text-bytes-promise
-use Rattle.text.proofs.byte.Kinds as text-byte
-use Rattle.text.proofs.byte.Reads as text-byte-promise
-use Rattle.text.proofs.decimal.Kinds as text-decimal
-use Rattle.text.proofs.decimal.Reads as text-decimal-promise
-use Rattle.text.proofs.hex.Kinds as text-hex
-use Rattle.text.proofs.hex.Reads as text-hex-promise
+use Rattle.text.proofs.Writer.bytes.Kinds as text-writer-bytes
+use Rattle.text.proofs.Writer.bytes.Reads as text-writer-bytes-promise
+use Rattle.text.proofs.Writer.byte.Kinds as text-writer-byte
+use Rattle.text.proofs.Writer.byte.Reads as text-writer-byte-promise
+use Rattle.text.proofs.Writer.decimal.Kinds as text-writer-decimal
+use Rattle.text.proofs.Writer.decimal.Reads as text-writer-decimal-promise
+use Rattle.text.proofs.Writer.hex.Kinds as text-writer-hex
+use Rattle.text.proofs.Writer.hex.Reads as text-writer-hex-promise
 use Rattle.split.proofs.from.Kinds as Split-from
 use Rattle.split.proofs.from.Reads as split-from-promise
 use Rattle.split.proofs.before.Kinds as split-before
@@ -390,36 +389,40 @@ pub record Left : Type 0 where
 left_same : {m n : ℕ} {b c : List ℕ} → m ≡ n → b ≡ c → ◌≡◌ {A = Left} (record { answer = m; buffer = b }) (record { answer = n; buffer = c })
 left_same d e = rw (d, e)
 
--- what is written, and the place after it
-written_same : {at n m : ℕ} {piece before b c : List ℕ} → Written at piece before b n → Written at piece before c m → ◌≡◌ {A = Left} (record { answer = n; buffer = b }) (record { answer = m; buffer = c })
-written_same p q = left_same (p.next_is ∙ sym q.next_is) (p.now_is ∙ sym q.now_is)
+-- what a writer has: the place, and every byte of its buffer
+pub record Held : Type 0 where
+  pub at : ℕ
+  pub out : List ℕ
 
-pub text_bytes_determined : Determines {O = Left} 2 text-bytes.ps text-bytes.r text-bytes-promise.Post (λ κs r e. record { answer = r; buffer = e.0.now })
-text_bytes_determined κs a x y s t p q = written_same p q
+held_same : {m n : ℕ} {b c : List ℕ} → m ≡ n → b ≡ c → ◌≡◌ {A = Held} (record { at = m; out = b }) (record { at = n; out = c })
+held_same d e = rw (d, e)
 
-pub text_byte_determined : Determines {O = Left} 1 text-byte.ps text-byte.r text-byte-promise.Post (λ κs r e. record { answer = r; buffer = e.0.now })
-text_byte_determined κs a x y s t p q = written_same p q
+pub text_writer_bytes_determined : Determines {O = Held} 3 text-writer-bytes.ps text-writer-bytes.r text-writer-bytes-promise.Post (λ κs r e. record { at = e.0.now.at; out = e.0.now.out.now })
+text_writer_bytes_determined κs a x y s t p q = held_same (p.next_is ∙ sym q.next_is) (p.now_is ∙ sym q.now_is)
 
-pub text_decimal_determined : Determines {O = Left} 1 text-decimal.ps text-decimal.r text-decimal-promise.Post (λ κs r e. record { answer = r; buffer = e.0.now })
-text_decimal_determined κs a x y s t p q = written_same p q
+pub text_writer_byte_determined : Determines {O = Held} 2 text-writer-byte.ps text-writer-byte.r text-writer-byte-promise.Post (λ κs r e. record { at = e.0.now.at; out = e.0.now.out.now })
+text_writer_byte_determined κs a x y s t p q = held_same (p.next_is ∙ sym q.next_is) (p.now_is ∙ sym q.now_is)
 
-pub text_hex_determined : Determines {O = Left} 1 text-hex.ps text-hex.r text-hex-promise.Post (λ κs r e. record { answer = r; buffer = e.0.now })
-text_hex_determined κs a x y s t p q = written_same p q
+pub text_writer_decimal_determined : Determines {O = Held} 2 text-writer-decimal.ps text-writer-decimal.r text-writer-decimal-promise.Post (λ κs r e. record { at = e.0.now.at; out = e.0.now.out.now })
+text_writer_decimal_determined κs a x y s t p q = held_same (p.next_is ∙ sym q.next_is) (p.now_is ∙ sym q.now_is)
 
-pub quotes_characters_determined : Determines {O = Left} 2 quotes-characters.ps quotes-characters.r quotes-characters-promise.Post (λ κs r e. record { answer = r; buffer = e.0.now })
-quotes_characters_determined κs a x y s t p q = written_same p q
+pub text_writer_hex_determined : Determines {O = Held} 2 text-writer-hex.ps text-writer-hex.r text-writer-hex-promise.Post (λ κs r e. record { at = e.0.now.at; out = e.0.now.out.now })
+text_writer_hex_determined κs a x y s t p q = held_same (p.next_is ∙ sym q.next_is) (p.now_is ∙ sym q.now_is)
 
-pub quotes_double_determined : Determines {O = Left} 2 quotes-double.ps quotes-double.r quotes-double-promise.Post (λ κs r e. record { answer = r; buffer = e.0.now })
-quotes_double_determined κs a x y s t p q = written_same p.0 q.0
+pub quotes_characters_determined : Determines {O = Held} 3 quotes-characters.ps quotes-characters.r quotes-characters-promise.Post (λ κs r e. record { at = e.0.now.at; out = e.0.now.out.now })
+quotes_characters_determined κs a x y s t p q = held_same (p.next_is ∙ sym q.next_is) (p.now_is ∙ sym q.now_is)
 
-pub record_line_lines_determined : Determines {O = Left} 2 record-line-lines.ps record-line-lines.r record-line-lines-promise.Post (λ κs r e. record { answer = r; buffer = e.1.1.0.now })
-record_line_lines_determined κs a x y s t p q = written_same p.written q.written
+pub quotes_double_determined : Determines {O = Held} 3 quotes-double.ps quotes-double.r quotes-double-promise.Post (λ κs r e. record { at = e.0.now.at; out = e.0.now.out.now })
+quotes_double_determined κs a x y s t p q = held_same (p.next_is ∙ sym q.next_is) (p.now_is ∙ sym q.now_is)
+
+pub record_line_lines_determined : Determines {O = Held} 3 record-line-lines.ps record-line-lines.r record-line-lines-promise.Post (λ κs r e. record { at = e.1.1.0.now.at; out = e.1.1.0.now.out.now })
+record_line_lines_determined κs a x y s t p q = held_same (p.next_is ∙ sym q.next_is) (p.now_is ∙ sym q.now_is)
 
 pub refusal_line_write_determined : Determines {O = Left} 1 refusal-line-write.ps refusal-line-write.r refusal-line-write-promise.Post (λ κs r e. record { answer = r; buffer = e.0.now })
-refusal_line_write_determined κs a x y s t p q = written_same p.written q.written
+refusal_line_write_determined κs a x y s t p q = left_same (p.written.next_is ∙ sym q.written.next_is) (p.written.now_is ∙ sym q.written.now_is)
 
-pub sheet_line_record_determined : Determines {O = Left} 2 sheet-line-record.ps sheet-line-record.r sheet-line-record-promise.Post (λ κs r e. record { answer = r; buffer = e.0.now })
-sheet_line_record_determined κs a x y s t p q = written_same p q
+pub sheet_line_record_determined : Determines {O = Held} 3 sheet-line-record.ps sheet-line-record.r sheet-line-record-promise.Post (λ κs r e. record { at = e.0.now.at; out = e.0.now.out.now })
+sheet_line_record_determined κs a x y s t p q = held_same (p.next_is ∙ sym q.next_is) (p.now_is ∙ sym q.now_is)
 
 -- the import and the export: the answer, and every byte of the buffer
 pub importing_import_determined : Determines {O = Result ℕ of-sheets.Refusal} 2 importing-import.ps importing-import.r importing-import-promise.Post (λ κs r e. r)

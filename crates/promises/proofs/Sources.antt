@@ -90,14 +90,14 @@ shape_place_determined κs a x y s t p q = p.0 ∙ sym q.0
 pub shape_held_count_determined : Determines {O = ℕ} 0 shape-held-count.ps shape-held-count.r shape-held-count-promise.Post (λ κs r e. r)
 shape_held_count_determined κs a x y s t p q = p ∙ sym q
 
-pub shape_offset_after_determined : Determines {O = ℕ} 0 shape-offset-after.ps shape-offset-after.r shape-offset-after-promise.Post (λ κs r e. r)
-shape_offset_after_determined κs a x y s t p q = p ∙ sym q
+pub shape_adjustment_offset_after_determined : Determines {O = ℕ} 0 shape-offset-after.ps shape-offset-after.r shape-offset-after-promise.Post (λ κs r e. r)
+shape_adjustment_offset_after_determined κs a x y s t p q = p ∙ sym q
 
 pub shape_run_from_determined : Determines {O = ℕ} 0 shape-run-from.ps shape-run-from.r shape-run-from-promise.Post (λ κs r e. r)
 shape_run_from_determined κs a x y s t p q = p ∙ sym q
 
-pub shape_ended_by_determined : Determines {O = ℕ} 0 shape-ended-by.ps shape-ended-by.r shape-ended-by-promise.Post (λ κs r e. r)
-shape_ended_by_determined κs a x y s t p q = p ∙ sym q
+pub shape_adjustment_ended_by_determined : Determines {O = ℕ} 0 shape-ended-by.ps shape-ended-by.r shape-ended-by-promise.Post (λ κs r e. r)
+shape_adjustment_ended_by_determined κs a x y s t p q = p ∙ sym q
 
 -- ---- container
 

@@ -11,7 +11,7 @@ use lib.Seq.{take_all, take-suc}
 use borrow.Author.Tests.{eq-eqb, ne_eqb, eqb-true}
 use Rattle.laws.proofs.Tests.{by_test}
 use Rattle.text.specs.declared.Writer.{Writer}
-use Rattle.text.specs.Writing.{HasRoom, Wrote, WroteWithin}
+use Rattle.text.specs.InnerWriting.{HasRoom, Wrote, WroteWithin}
 use Rattle.text.proofs.Pieces.{wrote_none, wrote_then}
 use Rattle.text.proofs.Within.{within}
 use Rattle.split.specs.Split.{opens}

@@ -7,7 +7,7 @@ use native.Mathlib.Omega.{arith}
 use lib.ListN.{length, take, drop, length-drop}
 use lib.Seq.{take_all, length-take-le}
 use Rattle.text.specs.declared.Writer.{Writer}
-use Rattle.text.specs.Writing.{HasRoom, Wrote}
+use Rattle.text.specs.InnerWriting.{HasRoom, Wrote}
 use Rattle.text.proofs.Pieces.{wrote_none, wrote_then}
 use Rattle.quotes.specs.Quotes.{in_quotes}
 use Rattle.quotes.specs.Inner.{Closes, Says}

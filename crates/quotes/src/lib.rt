@@ -2,7 +2,7 @@
 #![tactic(auto)]
 
 ghost use Rattle.std.specs.Prelude.{◌≡◌, false, [], ◌∷◌, ◌+◌, ◌*◌, ◌≤◌, length, MatchOption};
-ghost use Rattle.text.specs.Writing.{HasRoom, Wrote, WroteWithin};
+ghost use Rattle.text.specs.InnerWriting.{HasRoom, Wrote, WroteWithin};
 ghost use Rattle.quotes.specs.Quotes.{in_quotes, behind_quotes, doubled};
 ghost use Rattle.quotes.specs.Inner.{Closes, Says};
 

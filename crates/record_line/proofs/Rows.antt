@@ -6,7 +6,7 @@ use native.Mathlib.Nat.{add-zero, zero-add, mul-le-mul_left}
 use native.Mathlib.Numerals.{add-one}
 use native.Mathlib.Omega.{arith}
 use Rattle.text.specs.declared.Writer.{Writer}
-use Rattle.text.specs.Writing.{HasRoom, WroteWithin}
+use Rattle.text.specs.InnerWriting.{HasRoom, WroteWithin}
 use Rattle.text.proofs.Pieces.{wrote_none}
 use Rattle.text.proofs.Within.{within, within_then}
 use Rattle.records.specs.Record.{record_at}

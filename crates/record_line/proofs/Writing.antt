@@ -8,7 +8,7 @@ use lib.ListN.{length}
 use Rattle.text.specs.Text.{decimal_of, hex_of}
 use Rattle.text.specs.Inner.{Short}
 use Rattle.text.specs.declared.Writer.{Writer}
-use Rattle.text.specs.Writing.{HasRoom, Wrote, WroteWithin}
+use Rattle.text.specs.InnerWriting.{HasRoom, Wrote, WroteWithin}
 use Rattle.text.proofs.Digits.{length_decimal}
 use Rattle.text.proofs.Within.{wider, within, within_number, within_then}
 use Rattle.quotes.specs.Quotes.{doubled}

@@ -4,7 +4,7 @@
 
 ghost use Rattle.std.specs.Prelude.{◌≡◌, [], ◌∷◌, ◌++◌, ◌+◌, ◌*◌, length};
 ghost use Rattle.text.specs.Inner.{Short};
-ghost use Rattle.text.specs.Writing.{HasRoom, WroteWithin};
+ghost use Rattle.text.specs.InnerWriting.{HasRoom, WroteWithin};
 ghost use Rattle.records.specs.Record.{circuit_in, flags_in};
 ghost use Rattle.record_line.specs.RecordLine.{number_and_label, characters_of, trace_and_flags, line_of, lines_from};
 ghost use Rattle.record_line.specs.Inner.{characters_most, line_most};

@@ -8,7 +8,7 @@ use lib.Seq.{length-take-le}
 use Rattle.text.specs.Text.{decimal_of}
 use Rattle.text.specs.Inner.{Short, Within}
 use Rattle.text.specs.declared.Writer.{Writer}
-use Rattle.text.specs.Writing.{HasRoom, Wrote, WroteWithin}
+use Rattle.text.specs.InnerWriting.{HasRoom, Wrote, WroteWithin}
 use Rattle.text.proofs.Digits.{length_most}
 use Rattle.text.proofs.Pieces.{wrote_none}
 use Rattle.text.proofs.Within.{begun_within, byte_short, wider, within, within_number, within_then}

@@ -5,7 +5,7 @@
 ghost use Rattle.std.specs.Prelude.{◌∷◌, ◌≤◌, length};
 ghost use Rattle.text.specs.Text.{decimal_of};
 ghost use Rattle.text.specs.Inner.{Within};
-ghost use Rattle.text.specs.Writing.{HasRoom, WroteWithin};
+ghost use Rattle.text.specs.InnerWriting.{HasRoom, WroteWithin};
 ghost use Rattle.records.specs.Refusals.{places_in};
 ghost use Rattle.refusal_line.specs.RefusalLine.{blank_before, refusal_line};
 

@@ -9,7 +9,7 @@ use lib.ListN.{length, take, drop, replicate, length-append, length-replicate}
 use borrow.Author.Tests.{leb-true}
 use Rattle.laws.proofs.Tests.{and_left, and_right}
 use Rattle.text.specs.declared.Writer.{Writer}
-use Rattle.text.specs.Writing.{HasRoom, Wrote}
+use Rattle.text.specs.InnerWriting.{HasRoom, Wrote}
 use Rattle.text.proofs.Pieces.{wrote_then}
 use Rattle.split.specs.Split.{up_to}
 use Rattle.digits.specs.Digits.{is_number, digits_only, value_from, is_label, label_value}

@@ -3,7 +3,7 @@
 #![tactic(auto)]
 
 ghost use Rattle.std.specs.Prelude.{◌≡◌, drop};
-ghost use Rattle.text.specs.Writing.{HasRoom, Wrote};
+ghost use Rattle.text.specs.InnerWriting.{HasRoom, Wrote};
 ghost use Rattle.digits.specs.Digits.{value_from};
 ghost use Rattle.sheet_line.specs.Line.{number_field, label_field, trace_on, quoted, characters, behind_comma, flags_field, well_formed, line_faults, line_judged, padded, front_of, record_of};
 ghost use Rattle.sheet_line.specs.Inner.{Sound};

@@ -7,7 +7,7 @@ use lib.ListN.{length, length-append}
 use Rattle.text.specs.Text.{decimal_of}
 use Rattle.text.specs.Inner.{Written, Short, Within}
 use Rattle.text.specs.declared.Writer.{Writer}
-use Rattle.text.specs.Writing.{HasRoom, Wrote, WroteWithin}
+use Rattle.text.specs.InnerWriting.{HasRoom, Wrote, WroteWithin}
 use Rattle.text.proofs.Digits.{length_decimal}
 use Rattle.text.proofs.Pieces.{written, wrote_then}
 

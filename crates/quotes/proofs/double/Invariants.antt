@@ -1,6 +1,6 @@
 -- `quotes::double` meets its contract: the characters before this one are written. Assumes nothing.
 use Rattle.std.proofs.Common.{take}
-use Rattle.text.specs.Writing.{Wrote}
+use Rattle.text.specs.InnerWriting.{Wrote}
 use Rattle.quotes.specs.Quotes.{doubled}
 use Rattle.quotes.proofs.double.Given as goal
 

@@ -1,7 +1,7 @@
 -- `record_line::lines` meets its contract: after k turns the lines of the first k records are written. Assumes nothing.
 use Prim.Native.Nat.{◌*◌}
 use Rattle.record_line.specs.RecordLine.{lines_from}
-use Rattle.text.specs.Writing.{WroteWithin}
+use Rattle.text.specs.InnerWriting.{WroteWithin}
 use Rattle.record_line.specs.Inner.{line_most}
 use Rattle.record_line.proofs.lines.Given as goal
 
