@@ -122,7 +122,8 @@ impl<'a> Line<'a> {
         let t = inside(self.bytes);
         let k = quotes::count(t);
         quotes::characters(w, t);
-        w.bytes(&spaces[..15 - k]);
+        let m = 15 - k;
+        w.bytes(&spaces[..m]);
     }
 
     // Its flags.
