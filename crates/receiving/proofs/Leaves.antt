@@ -2,10 +2,10 @@
 use Rattle.std.specs.Prelude.{Option, Some}
 use mathlib.Core.Path.{◌≡◌, refl, sym, ap, ◌∙◌}
 use mathlib.Core.Bool.{Bool, true, false}
-use mathlib.Core.List.{List}
-use Prim.Native.Nat.{ℕ, ◌+◌, ◌-◌, ◌*◌, ◌<◌, ◌≤◌, ◌^◌}
+use mathlib.Core.List.{List, [], ◌∷◌}
+use Prim.Native.Nat.{ℕ, zero, suc, ◌+◌, ◌-◌, ◌*◌, ◌<◌, ◌≤◌, ◌^◌}
 use native.Mathlib.Omega.{arith}
-use lib.ListN.{length, take, drop}
+use lib.ListN.{get_or, length, take, drop}
 use Rattle.copier.proofs.Parts.{length_part}
 use Rattle.shape.specs.Shape.{unit_length}
 use Rattle.shape.specs.declared.Shape.{Shape}
@@ -18,10 +18,12 @@ use Rattle.monitor.specs.Seeing.{seen_in}
 use Rattle.monitor.specs.declared.Monitor.{Monitor}
 use Rattle.monitor.specs.declared.Overhead.{Overhead}
 use Rattle.settings.specs.declared.Settings.{Settings}
+use Rattle.monitor.specs.declared.Seen.{Seen}
+use Rattle.receiving.specs.declared.Ended.{Ended}
 use Rattle.receiving.specs.declared.Begin.{Begin}
 use Rattle.receiving.specs.declared.AfterUnit.{AfterUnit}
 use Rattle.receiving.specs.InnerTurns.{seen_where, taken, taken_both}
-use Rattle.receiving.specs.Receiving.{monitor_in, begin_in, cut_in, watched, both_seen, received_normal}
+use Rattle.receiving.specs.Receiving.{begin_in, cut_in, not_seen, watched, ended_in, both_seen, received_normal, monitor_in}
 use Rattle.receiving.specs.Inner.{NormalOutcomeIs, Inside, Seeable, Receivable}
 
 -- ---- what is watched
@@ -123,3 +125,31 @@ module _ (s : Shape) (t : Taken) (offset count : ℕ) (unit held done : List ℕ
             let first-as : watched c.ends s.columns done' e before ≡ watched c.ends s.columns (completed_of s c unit held) e (monitor_in t m) =
             rw (done-as, before-is) (watched_done s c unit held done e (monitor_in t m) c.ends refl) in
             rw (left_is, first-as, held-as, done-as, c-is) refl
+
+-- ---- the two taken in
+
+-- what was seen last after the first k of them
+unfoldable pub last_seen : ℕ → Option Overhead → Option Overhead → Settings → Seen → Seen
+last_seen zero completed inside e none = none
+last_seen (suc zero) completed inside e none = taken completed e none.monitor
+last_seen (suc (suc k)) completed inside e none = taken inside e (taken completed e none.monitor).monitor
+
+module _ (completed inside : Option Overhead) (e : Settings) (none : Seen) where
+  pub last_on : (k : ℕ) (d : Option Overhead) (later r : Seen) → k < 2 → later ≡ last_seen k completed inside e none
+      → r ≡ taken (get_or (completed ∷ inside ∷ []) k d) e later.monitor
+      → (r ≡ last_seen (k + 1) completed inside e none) × (later ≡ last_seen (k + 1 - 1) completed inside e none)
+  unfolding last_seen
+  last_on zero d later r h i j = (rw i at j, i)
+  last_on (suc zero) d later r h i j = (rw i at j, i)
+  last_on (suc (suc k)) d later r h i j = absurd (omega arith)
+
+  -- two turns take in both
+  pub both_taken : (k : ℕ) (c : Cut) (m : Monitor) (earlier later : Seen) (ended : Ended)
+      → none ≡ not_seen m → 2 ≤ k → k ≤ 2
+      → (later ≡ last_seen k completed inside e none) × (earlier ≡ last_seen (k - 1) completed inside e none)
+      → ended ≡ ended_in c earlier later
+      → record { monitor = later.monitor; held = c.rest; ended = ended } ≡ taken_both c completed inside m e
+  unfolding last_seen
+  both_taken k c m earlier later ended n h i f d =
+      let two : k ≡ 2 = omega arith in
+      rw (d, f.0, f.1, two, n) refl

@@ -15,6 +15,7 @@ pub struct Gathered {
 }
 
 // The message being gathered, the last good one with its run, the accepted one if there is one, the count of containers without a good message, and dTIM.
+// Kept: `known` beside `accepted`, and no Option, since `probe_sink_c` hands this struct to C.
 #[repr(C)]
 #[derive(Clone, Copy)]
 pub struct Trace {

@@ -1,4 +1,3 @@
 pub mod Answers
 pub mod Writes
-pub mod Cases
 pub mod Opened

@@ -25,14 +25,11 @@ pub fn fresh() -> State
     State { offset: 0, wait: 3 }
 }
 
+#[tactic(auto, unfolding(crate::specs::Source::adjusts))]
 fn is_adjustment(a: Adjustment) -> bool
     ensures { result ≡ adjusts a }
 {
-    match a {
-        Adjustment::Nothing => false,
-        Adjustment::Increment => true,
-        Adjustment::Decrement => true,
-    }
+    !matches!(a, Adjustment::Nothing)
 }
 
 fn out_of_range(top: u16, s: State) -> bool
@@ -68,6 +65,7 @@ fn answer(
 }
 
 // The pointer word: the offset, with its I bits inverted for an increment and its D bits for a decrement.
+#[tactic(auto, unfolding(crate::specs::Source::word_sent))]
 fn word_sent(a: Adjustment, offset: u16) -> u16
     ensures { result ≡ word_sent a offset }
 {
@@ -89,13 +87,13 @@ fn write(shape: Shape, a: Adjustment, offset: u16, current: &[u8], next: &[u8], 
     unit::pour(current, next, sent, from, unit);
 }
 
+#[tactic(auto, unfolding(crate::specs::Source::source_wait_after))]
 fn wait_after(a: Adjustment, wait: u8) -> u8
     ensures { result ≡ source_wait_after a wait }
 {
     match a {
         Adjustment::Nothing => counts::one_more(wait, 3),
-        Adjustment::Increment => 0,
-        Adjustment::Decrement => 0,
+        Adjustment::Increment | Adjustment::Decrement => 0,
     }
 }
 
