@@ -89,12 +89,13 @@ impl Sender {
     {
         let characters = sent.trace;
         let bytes = payload(self.seed);
+        let container = &mut self.queue[place];
         let answer = container_source::container_source(
             &mut self.containers,
             sent.given(),
             &characters,
             &bytes,
-            &mut self.queue[place],
+            container,
         );
         out.done("container refused", answer)?;
         self.seed = self.seed.wrapping_add(1);

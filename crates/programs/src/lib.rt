@@ -12,6 +12,7 @@ use std::fmt::{Display, Formatter};
 use std::io::{ErrorKind, Read};
 
 // Reads until the buffer is full, the input has ended or a read fails; how many bytes stand at its start then.
+// Kept: no method of `Read` says how far it came in a slice, and `read_to_end` fills a `Vec`, which wants a heap.
 pub fn read_full<R: Read>(input: &mut R, s: &mut [u8]) -> usize
     ensures { result ≤ length s.new }
 {

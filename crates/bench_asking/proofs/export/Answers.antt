@@ -5,5 +5,5 @@ use Rattle.bench_asking.proofs.export.Goals as goal
 pub slice_bounds-made-end : goal.slice_bounds-made-end
 slice_bounds-made-end g c = search text_there
 
-pub slice_bounds-say_bytes-end : goal.slice_bounds-say_bytes-end
-slice_bounds-say_bytes-end g c = search text_part
+pub slice_bounds-say_bytes-end-in-Ok : goal.slice_bounds-say_bytes-end-in-Ok
+slice_bounds-say_bytes-end-in-Ok g c = search text_part

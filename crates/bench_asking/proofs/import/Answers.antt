@@ -9,5 +9,5 @@ overflow_mul-n g c = let h : 21 * c.in-Ok.k ≤ 10752 = search good_fits in omeg
 pub slice_bounds-made-end : goal.slice_bounds-made-end
 slice_bounds-made-end g c = search good_there
 
-pub slice_bounds-say_bytes-end : goal.slice_bounds-say_bytes-end
-slice_bounds-say_bytes-end g c = search good_part
+pub slice_bounds-say_bytes-end-in-Ok : goal.slice_bounds-say_bytes-end-in-Ok
+slice_bounds-say_bytes-end-in-Ok g c = search good_part
