@@ -6,10 +6,11 @@ use Prim.Native.Nat.{ℕ, zero, suc, ◌+◌, ◌*◌, ◌<◌, ◌≤◌}
 use native.Mathlib.Omega.{arith}
 use lib.Dec.{eqb, ltb, leb}
 use lib.ListN.{length, drop, length-drop, length-append}
-use lib.Seq.{drop-append-le}
+use lib.Seq.{drop-drop, drop-append-le}
 use borrow.Author.Tests.{lt-ltb, le-ltb, le-leb, lt-leb, ltb-true, ltb-false}
 use Rattle.refusals.specs.Refusals.{Fault, due}
-use Rattle.split.specs.Split.{up_to}
+use Rattle.split.specs.Split.{up_to, past}
+use Rattle.split.proofs.Laws.{drop_up_to}
 use Rattle.sheet_line.specs.Line.{well_formed, line_faults, line_judged}
 use Rattle.sheet_line.specs.declared.LineFault.{LineFault}
 use Rattle.sheet_line.specs.declared.LineFault.TheVariants.{Malformed}
@@ -18,8 +19,36 @@ use Rattle.sheet_line.proofs.Ways.{wrong_malformed, sound_short}
 use Rattle.importing.specs.Import.{lf, Cut, cut, onto, lines_of, most_lines, faults_from, import_faults, first_of, import_answer, import_of}
 use Rattle.sheet_refusals.specs.declared.Refusal.{Refusal}
 use Rattle.sheet_refusals.specs.declared.Refusal.TheVariants.{TooMany, Line}
-use Rattle.importing.proofs.Walk.{next_of, lines_at}
+use Rattle.importing.proofs.Walk.{ended_in, lines_first}
 use Rattle.importing.proofs.Faulty.{first_both, first_hit, first_rest}
+
+-- ---- the line that begins at a place, and the place behind it
+
+abbrev line_at : List ℕ → ℕ → List ℕ
+line_at s at = up_to lf (drop at s)
+
+abbrev next_of : List ℕ → ℕ → ℕ
+next_of s at = at + length (line_at s at) + 1
+
+module _ (s : List ℕ) (at : ℕ) (h : at < length s) where
+  ended_at : ended_in (drop at s) ≡ leb (next_of s at) (length s)
+  unfolding ended_in
+  ended_at = go (ltb (length (line_at s at)) (length (drop at s))) refl
+    where
+      go : (b : Bool) → ltb (length (line_at s at)) (length (drop at s)) ≡ b → b ≡ leb (next_of s at) (length s)
+      go true e = sym (le-leb (next_of s at) (length s) (omega (arith, ltb-true (length (line_at s at)) (length (drop at s)) e, length-drop at s)))
+      go false e = sym (lt-leb (next_of s at) (length s) (omega (arith, ltb-false (length (line_at s at)) (length (drop at s)) e, length-drop at s)))
+
+  past_at : past lf (drop at s) ≡ drop (next_of s at) s
+  past_at =
+      let q : at + suc (length (line_at s at)) ≡ next_of s at = omega arith in
+      sym (drop_up_to lf (drop at s)) ∙ drop-drop (suc (length (line_at s at))) at s ∙ ap (λ (k : ℕ). drop k s) q
+
+  lines_at : lines_of (drop at s) ≡ cut (line_at s at) (leb (next_of s at) (length s)) ∷ lines_of (drop (next_of s at) s)
+  lines_at =
+      lines_first (drop at s) (omega (arith, length-drop at s))
+      ∙ ap (λ (b : Bool). cut (line_at s at) b ∷ lines_of (past lf (drop at s))) ended_at
+      ∙ ap (λ (l : List ℕ). cut (line_at s at) (leb (next_of s at) (length s)) ∷ lines_of l) past_at
 
 -- ---- what stands behind a text changes none of its lines but the last
 
