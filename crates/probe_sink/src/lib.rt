@@ -44,6 +44,7 @@ pub struct Shown {
     pub settled: bool,
 }
 
+// Kept: a number for the state, since C can be handed no enum.
 fn pointer_state(kind: u8, offset: u16) -> pointer_state::State
     ensures { result ≡ pointer_state kind offset }
 {

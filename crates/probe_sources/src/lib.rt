@@ -93,6 +93,7 @@ pub fn probe_fresh_unit() -> u64
     pack_unit(unit_source::fresh())
 }
 
+// Kept: a number for what is asked, since C can be handed no enum.
 fn adjustment(asked: u8) -> Adjustment
     ensures { result ≡ adjustment_by asked }
 {

@@ -213,6 +213,7 @@ fn watch_both(shape: Shape, c: Cut, unit: &[u8], done: &[u8], m: Monitor, e: Set
 }
 
 // A unit that ends normal at the offset, its word taken as t, with `count` bytes held before it.
+// Kept: `held` and `done` beside each other, and no struct of both: where a struct holds a `&mut`, each contract says besides that it is the same one.
 pub fn receive(
     shape: Shape,
     t: Taken,

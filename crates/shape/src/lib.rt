@@ -53,6 +53,7 @@ impl Shape {
     }
 
     // The place of J1 at an offset, counted from byte offset 0.
+    // Kept: asked of each call, and no type of offsets that fit: the states of the unit source and of the sink hold any number, which 8 refuses (`make_faults`, `sink_faults`).
     #[tactic(auto, using(crate::proofs::Offsets::place_low))]
     pub fn place(self, offset: u16) -> usize
         requires { offset ≤ self.top }

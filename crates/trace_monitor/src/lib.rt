@@ -6,6 +6,7 @@ ghost use Rattle.std.specs.Prelude.{◌≡◌};
 ghost use Rattle.trace_monitor.specs.Trace.{gathered_of, ends_good, spoils, with_good, without_good, trace_of, blank_trace};
 
 // The message that is being gathered: the place of its next byte, 0 outside any, its start byte, and its characters as far as they have come.
+// Kept: a buffer with a place beside it, since `probe_sink_c` hands this struct to C.
 #[repr(C)]
 #[derive(Clone, Copy)]
 pub struct Gathered {
