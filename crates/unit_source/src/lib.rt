@@ -28,11 +28,7 @@ pub fn fresh() -> State
 fn is_adjustment(a: Adjustment) -> bool
     ensures { result ≡ adjusts a }
 {
-    match a {
-        Adjustment::Nothing => false,
-        Adjustment::Increment => true,
-        Adjustment::Decrement => true,
-    }
+    matches!(a, Adjustment::Increment | Adjustment::Decrement)
 }
 
 fn out_of_range(top: u16, s: State) -> bool
@@ -94,8 +90,7 @@ fn wait_after(a: Adjustment, wait: u8) -> u8
 {
     match a {
         Adjustment::Nothing => counts::one_more(wait, 3),
-        Adjustment::Increment => 0,
-        Adjustment::Decrement => 0,
+        Adjustment::Increment | Adjustment::Decrement => 0,
     }
 }
 
