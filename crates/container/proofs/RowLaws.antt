@@ -2,7 +2,7 @@
 use mathlib.Core.Path.{◌≡◌, sym, ap, ◌∙◌}
 use mathlib.Core.List.{List, [], ◌∷◌, ◌++◌, append_assoc, append-nil}
 use Prim.Native.Nat.{ℕ, suc, ◌+◌, ◌-◌, ◌*◌, ◌<◌, ◌≤◌}
-use native.Mathlib.Nat.{suc-mul, zero-mul, add_comm}
+use native.Mathlib.Nat.{suc-mul, zero-mul, mul-le-mul_right}
 use native.Mathlib.Numerals.{add-one}
 use native.Mathlib.Omega.{arith}
 use lib.ListN.{length, take, drop, set, get_or, length-set, drop_of_length-le}
@@ -11,17 +11,18 @@ use borrow.Rule.Slice.PartMut.{put_mid}
 use Rattle.copier.proofs.Parts.{take_part, length_part, length_whole}
 use Rattle.container.specs.Container.{rows_of, strip_of}
 
--- the rows that are left are one and the others
-one_row : (row width : ℕ) → row < 9 → (9 - row) * width ≡ width + (9 - (row + 1)) * width
-one_row row width h =
-    let q : 9 - row ≡ suc (9 - (row + 1)) = omega arith in
-    rw (q, suc-mul) (add_comm ((9 - (row + 1)) * width) width)
+-- where the next row begins: of the payload at this width, of the container with its overhead byte
+next_from : (row width : ℕ) → (row + 1) * width ≡ row * width + width
+next_from row width = rw (add-one, suc-mul)
 
--- and after the last there is none
-no_row : (row width : ℕ) → 9 ≤ row → (9 - row) * width ≡ 0
-no_row row width h =
-    let q : 9 - row ≡ 0 = omega arith in
-    rw (q, zero-mul)
+next_to : (row width : ℕ) → (row + 1) * (width + 1) ≡ row * (width + 1) + 1 + width
+next_to row width = omega (arith, next_from row (width + 1))
+
+-- and of nine rows no row goes past the end
+row_low : (row width : ℕ) → row < 9 → row * width + width ≤ 9 * width
+row_low row width more =
+    let next : row + 1 ≤ 9 = omega arith in
+    omega (arith, next_from row width, mul-le-mul_right width next)
 
 -- a row is written: its overhead byte, and its part of the payload, which came back as q
 module _ (w : ℕ) (overhead payload d q x : List ℕ) (row from to : ℕ) where
@@ -102,55 +103,40 @@ module _ (w : ℕ) (container d q x : List ℕ) (left from to : ℕ) where
 
 -- ---- what `rows` knows before each row: d is the container, lent as d₀; the rows left fill it
 
-module _ (w row from n : ℕ) (more : row < 9) (left : from + (9 - row) * w ≡ n) where
-  pub room_left : from + w ≤ n
-  room_left = omega (arith, one_row row w more)
+pub rows_begin : (w : ℕ) (overhead payload d : List ℕ) → take (0 * (w + 1)) d ++ rows_of w (drop 0 overhead) (drop (0 * w) payload) ≡ rows_of w overhead payload
+rows_begin w overhead payload d = simp zero-mul
 
-  pub left_next : from + w + (9 - (row + 1)) * w ≡ n
-  left_next = omega (arith, one_row row w more)
-
-module _ (w : ℕ) (overhead payload d d₀ : List ℕ) (row from to : ℕ)
-    (nine : length overhead ≡ 9) (to_is : to ≡ from + row) (left : from + (9 - row) * w ≡ length payload) (asked : length d₀ ≡ length payload + 9) (long : length d ≡ length d₀)
+module _ (w : ℕ) (overhead payload d d₀ : List ℕ) (row : ℕ)
+    (nine : length overhead ≡ 9) (full : length payload ≡ 9 * w) (asked : length d₀ ≡ length payload + 9) (long : length d ≡ length d₀)
   where
-    -- there is room for one more
-    pub row_room : row < 9 → to + 1 + w ≤ length d
-    row_room more = omega (arith, one_row row w more)
+    pub rows_turn : (q x : List ℕ) → row < 9 → q ≡ take (row * w + w - row * w) (drop (row * w) payload) → take (row * (w + 1)) d ++ rows_of w (drop row overhead) (drop (row * w) payload) ≡ x
+        → take ((row + 1) * (w + 1)) (put_mid (row * (w + 1) + 1) (row * (w + 1) + 1 + w - (row * (w + 1) + 1)) (set d (row * (w + 1)) (get_or overhead row 0)) q)
+        ++ rows_of w (drop (row + 1) overhead) (drop ((row + 1) * w) payload) ≡ x
+    rows_turn q x more is e =
+        rw (next_from row w, next_to row w)
+        (row_turn w overhead payload d q x row (row * w) (row * (w + 1)) (omega arith)
+        (omega (arith, row_low row (w + 1) more)) (omega (arith, row_low row w more)) is e)
 
-    module _ (more : row < 9) (q : List ℕ) (q-is : q ≡ take (from + w - from) (drop from payload)) where
-      pub rows_long : length (put_mid (to + 1) (to + 1 + w - (to + 1)) (set d to (get_or overhead row 0)) q) ≡ length d₀
-      rows_long =
-          row_long w overhead payload d q d row from to (row_room more) (room_left w row from (length payload) more left) q-is ∙ long
-
-      pub rows_turn : (x : List ℕ) → take to d ++ rows_of w (drop row overhead) (drop from payload) ≡ x
-          → take (to + 1 + w) (put_mid (to + 1) (to + 1 + w - (to + 1)) (set d to (get_or overhead row 0)) q) ++ rows_of w (drop (row + 1) overhead) (drop (from + w) payload) ≡ x
-      rows_turn x = row_turn w overhead payload d q x row from to (omega arith) (row_room more) (room_left w row from (length payload) more left) q-is
-
-    pub rows_end : (x : List ℕ) → 9 ≤ row → row ≤ 9 → take to d ++ rows_of w (drop row overhead) (drop from payload) ≡ x → d ≡ x
-    rows_end x past low = row_end w overhead payload d d x row from to (omega arith) (omega (arith, no_row row w past))
+    pub rows_end : (x : List ℕ) → 9 ≤ row → take (row * (w + 1)) d ++ rows_of w (drop row overhead) (drop (row * w) payload) ≡ x → d ≡ x
+    rows_end x past = row_end w overhead payload d d x row (row * w) (row * (w + 1)) (omega arith) (omega (arith, mul-le-mul_right (w + 1) past))
 
 -- ---- what `strip` knows before each row: d is the payload, lent as d₀
 
-module _ (w : ℕ) (container d d₀ : List ℕ) (done from to : ℕ)
-    (from_is : from ≡ to + done) (left : to + (9 - done) * w ≡ length d₀) (asked : length container ≡ length d₀ + 9) (long : length d ≡ length d₀)
+pub strip_begin : (w : ℕ) (container d : List ℕ) → take (0 * w) d ++ strip_of w (9 - 0) (drop (0 * (w + 1)) container) ≡ strip_of w 9 container
+strip_begin w container d = simp zero-mul
+
+module _ (w : ℕ) (container d d₀ : List ℕ) (row : ℕ)
+    (full : length d₀ ≡ 9 * w) (asked : length container ≡ length d₀ + 9) (long : length d ≡ length d₀)
   where
-    -- there is one more row, and room for it
-    pub taken_room : done < 9 → from + 1 + w ≤ length container
-    taken_room more = omega (arith, one_row done w more)
+    pub strip_turn : (q x : List ℕ) → row < 9 → q ≡ take (row * (w + 1) + 1 + w - (row * (w + 1) + 1)) (drop (row * (w + 1) + 1) container)
+        → take (row * w) d ++ strip_of w (9 - row) (drop (row * (w + 1)) container) ≡ x
+        → take ((row + 1) * w) (put_mid (row * w) (row * w + w - row * w) d q) ++ strip_of w (9 - (row + 1)) (drop ((row + 1) * (w + 1)) container) ≡ x
+    strip_turn q x more is e =
+        let one : 9 - row ≡ suc (9 - (row + 1)) = omega arith in
+        rw (next_from row w, next_to row w)
+        (taken_turn w container d q x (9 - (row + 1)) (row * (w + 1)) (row * w) (omega (arith, row_low row w more)) (omega (arith, row_low row (w + 1) more)) is (rw one at e))
 
-    pub payload_room : done < 9 → to + w ≤ length d
-    payload_room more = omega (arith, one_row done w more)
-
-    module _ (more : done < 9) (q : List ℕ) (q-is : q ≡ take (from + 1 + w - (from + 1)) (drop (from + 1) container)) where
-      pub strip_long : length (put_mid to (to + w - to) d q) ≡ length d₀
-      strip_long = taken_long w container d q d (9 - (done + 1)) from to (payload_room more) (taken_room more) q-is ∙ long
-
-      pub strip_turn : (x : List ℕ) → take to d ++ strip_of w (9 - done) (drop from container) ≡ x
-          → take (to + w) (put_mid to (to + w - to) d q) ++ strip_of w (9 - (done + 1)) (drop (from + 1 + w) container) ≡ x
-      strip_turn x e =
-          let one : 9 - done ≡ suc (9 - (done + 1)) = omega arith in
-          taken_turn w container d q x (9 - (done + 1)) from to (payload_room more) (taken_room more) q-is (rw one at e)
-
-    pub strip_end : (x : List ℕ) → 9 ≤ done → done ≤ 9 → take to d ++ strip_of w (9 - done) (drop from container) ≡ x → d ≡ x
-    strip_end x past low e =
-        let none : 9 - done ≡ 0 = omega arith in
-        taken_end w container d d x 0 from to (omega (arith, no_row done w past)) (rw none at e)
+    pub strip_end : (x : List ℕ) → 9 ≤ row → take (row * w) d ++ strip_of w (9 - row) (drop (row * (w + 1)) container) ≡ x → d ≡ x
+    strip_end x past e =
+        let none : 9 - row ≡ 0 = omega arith in
+        taken_end w container d d x 0 (row * (w + 1)) (row * w) (omega (arith, mul-le-mul_right w past)) (rw none at e)

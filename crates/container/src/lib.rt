@@ -16,18 +16,15 @@ pub fn rows(width: usize, overhead: [u8; 9], payload: &[u8], container: &mut [u8
     requires { (length payload.now ≡ 9 * width) × (length container.old ≡ length payload.now + 9) }
     ensures { container.new ≡ rows_of width overhead payload.now }
 {
-    let mut row: usize = 0;
-    let mut from: usize = 0;
-    let mut to: usize = 0;
-    while row < 9 {
-        container[to] = overhead[row];
+    for (row, byte) in overhead.iter().enumerate() {
+        let from = row * width;
+        let to = row * (width + 1);
+        container[to] = *byte;
         let start = to + 1;
-        let end = start + width;
-        let next = from + width;
-        copier::copy(&payload[from..next], &mut container[start..end]);
-        from = next;
-        to = end;
-        row += 1;
+        copier::copy(
+            &payload[from..from + width],
+            &mut container[start..start + width],
+        );
     }
 }
 
@@ -36,17 +33,10 @@ fn strip(width: usize, container: &[u8], payload: &mut [u8])
     requires { (length payload.old ≡ 9 * width) × (length container.now ≡ length payload.old + 9) }
     ensures { payload.new ≡ strip_of width 9 container.now }
 {
-    let mut done: usize = 0;
-    let mut from: usize = 0;
-    let mut to: usize = 0;
-    while done < 9 {
-        let start = from + 1;
-        let end = start + width;
-        let next = to + width;
-        copier::copy(&container[start..end], &mut payload[to..next]);
-        from = end;
-        to = next;
-        done += 1;
+    for row in 0..9 {
+        let to = row * width;
+        let from = row * (width + 1) + 1;
+        copier::copy(&container[from..from + width], &mut payload[to..to + width]);
     }
 }
 

@@ -17,10 +17,10 @@ pub j1_start : (place : ℕ) (trace : List ℕ) (b : ℕ) → place ≡ 0 → b 
 unfolding j1_of message
 j1_start place trace b z e = rw (z, e)
 
-pub j1_later : (place : ℕ) (trace : List ℕ) → (place ≡ 0 → ⊥) → get_or trace (place - 1) 0 ≡ j1_of place trace
+pub j1_later : (place i : ℕ) (trace : List ℕ) → (place ≡ 0 → ⊥) → i ≡ place - 1 → get_or trace i 0 ≡ j1_of place trace
 unfolding j1_of message
-j1_later zero trace h = absurd (h refl)
-j1_later (suc n) trace h = rw sub-one
+j1_later zero i trace h e = absurd (h refl)
+j1_later (suc n) i trace h e = rw (e, sub-one)
 
 -- ---- G1
 

@@ -55,8 +55,7 @@ fn j1(place: u8, characters: [u8; 15]) -> u8
     if place == 0 {
         return trace_message::start_byte(&characters);
     }
-    let k = (place - 1) as usize;
-    characters[k]
+    characters[usize::from(place - 1)]
 }
 
 // The violations in bits 1 to 4, remote defect in bit 5.

@@ -28,17 +28,6 @@ pub struct Cut {
     pub rest: usize,
 }
 
-// The place after the container begun earlier.
-fn next_place(shape: Shape, kept: usize, from: usize) -> usize
-    requires { Line shape kept from }
-    ensures { result ≡ next_of shape kept from }
-{
-    if 0 < kept {
-        return from + (shape.size - kept);
-    }
-    from
-}
-
 // The place from which the unit's bytes are held.
 fn begin_place(shape: Shape, next: usize) -> usize
     requires { next ≤ unit_length shape }
@@ -50,43 +39,64 @@ fn begin_place(shape: Shape, next: usize) -> usize
     next
 }
 
-// The cut as numbers; no byte is looked at.
-fn places(shape: Shape, kept: usize, from: usize) -> Cut
-    requires { Line shape kept from }
-    ensures { result ≡ cut_of shape kept from }
-{
-    let next = next_place(shape, kept, from);
-    let begin = begin_place(shape, next);
-    Cut {
-        kept,
-        from,
-        ends: 0 < kept,
-        next,
-        inside: next <= 3 * shape.step,
-        begin,
-        rest: shape.unit_length() - begin,
-    }
-}
-
-// A container begun earlier is completed in `done`: the held bytes first, and the unit's bytes from the held count on. Where none was begun, `done` is not touched.
-fn complete(shape: Shape, kept: usize, from: usize, unit: &[u8], held: &[u8], done: &mut [u8])
-    requires { (Line shape kept from) × (Sizes shape unit.now held.now done.old) }
-    ensures { done.new ≡ done_of shape (cut_of shape kept from) unit.now held.now done.old }
-{
-    if kept == 0 {
-        return;
-    }
-    let e = from + (shape.size - kept);
-    copier::copy_long(&held[..kept], &mut done[..kept]);
-    copier::copy_part(&unit[from..e], &mut done[kept..], kept);
-}
-
 // What begins and does not end goes to `held` from its first byte; the bytes after it stay.
 fn keep(begin: usize, rest: usize, unit: &[u8], held: &mut [u8])
     requires { (length unit.now ≡ begin + rest) × (rest ≤ length held.old) }
     ensures { held.new ≡ drop begin unit.now ++ drop rest held.old }
 {
     copier::copy_long(&unit[begin..], &mut held[..rest]);
+}
+
+// One line of bytes: `kept` held ones, and the unit's from the place `from` on.
+#[derive(Clone, Copy)]
+struct OneLine {
+    shape: Shape,
+    kept: usize,
+    from: usize,
+    ghost line: { Line shape kept from },
+}
+
+impl OneLine {
+    // The place after the container begun earlier.
+    fn next_place(self) -> usize
+        ensures { result ≡ next_of self.shape self.kept self.from }
+    {
+        if 0 < self.kept {
+            return self.from + (self.shape.size - self.kept);
+        }
+        self.from
+    }
+
+    // The cut as numbers; no byte is looked at.
+    fn places(self) -> Cut
+        ensures { result ≡ cut_of self.shape self.kept self.from }
+    {
+        let next = self.next_place();
+        let begin = begin_place(self.shape, next);
+        Cut {
+            kept: self.kept,
+            from: self.from,
+            ends: 0 < self.kept,
+            next,
+            inside: next <= 3 * self.shape.step,
+            begin,
+            rest: self.shape.unit_length() - begin,
+        }
+    }
+
+    // A container begun earlier is completed in `done`: the held bytes first, and the unit's bytes from the held count on. Where none was begun, `done` is not touched.
+    fn complete(self, unit: &[u8], held: &[u8], done: &mut [u8])
+        requires { Sizes self.shape unit.now held.now done.old }
+        ensures { done.new ≡ done_of self.shape (cut_of self.shape self.kept self.from) unit.now held.now done.old }
+    {
+        let OneLine { shape, kept, from } = self;
+        if kept == 0 {
+            return;
+        }
+        let e = from + (shape.size - kept);
+        copier::copy_long(&held[..kept], &mut done[..kept]);
+        copier::copy_part(&unit[from..e], &mut done[kept..], kept);
+    }
 }
 
 // One unit: its cut, and both buffers after it.
@@ -101,8 +111,9 @@ pub fn cut_unit(
     requires { (Line shape kept from) × (Sizes shape unit.now held.old done.old) }
     ensures { Cuts shape kept from unit.now held.old done.old result held.new done.new }
 {
-    let cut = places(shape, kept, from);
-    complete(shape, kept, from, unit, held, done);
+    let line = OneLine { shape, kept, from };
+    let cut = line.places();
+    line.complete(unit, held, done);
     keep(cut.begin, cut.rest, unit, held);
     cut
 }

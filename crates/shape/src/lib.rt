@@ -59,7 +59,7 @@ impl Shape {
         requires { offset ≤ self.top }
         ensures { (result ≡ place_of self offset) × (result ≤ self.size) }
     {
-        self.step * (offset as usize)
+        self.step * usize::from(offset)
     }
 
     // The bytes of the container under way at an offset: sent before the unit by a source, held by a sink.

@@ -46,7 +46,7 @@ fn gather(g: Gathered, j1: u8) -> Gathered
     }
     let mut chars = g.chars;
     if g.place < 15 {
-        chars[(g.place - 1) as usize] = j1;
+        chars[usize::from(g.place - 1)] = j1;
         return Gathered {
             place: g.place + 1,
             chars,

@@ -1,8 +1,8 @@
--- `cut::complete` meets its contract: the two parts of the done buffer that are lent make the completed container. Assumes nothing.
+-- `cut::OneLine::complete` meets its contract: the two parts of the done buffer that are lent make the completed container. Assumes nothing.
 use Rattle.cut.proofs.Copies.{untouched, lack_within, completed_is}
 use native.Mathlib.Omega.{arith}
 use lib.ListN.{length-take}
-use Rattle.cut.proofs.complete.Goals as goal
+use Rattle.cut.proofs.OneLine.complete.Goals as goal
 
 pub returns-then-kept-eq0 : goal.returns-then-kept-eq0
 returns-then-kept-eq0 c = search untouched

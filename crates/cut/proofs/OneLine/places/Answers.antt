@@ -1,7 +1,7 @@
--- `cut::places` meets its contract: the callees' equations, and that a cut stays within the unit. Assumes nothing.
+-- `cut::OneLine::places` meets its contract: the callees' equations, and that a cut stays within the unit. Assumes nothing.
 use Rattle.cut.proofs.Within.{next_within, begin_within, places_are}
 use borrow.Author.Rules.{rules}
-use Rattle.cut.proofs.places.Goals as goal
+use Rattle.cut.proofs.OneLine.places.Goals as goal
 
 pub begin_place-begin-requires : goal.begin_place-begin-requires
 begin_place-begin-requires c = search (next_within, rules)
