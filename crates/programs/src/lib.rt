@@ -12,6 +12,7 @@ use std::fmt::{Display, Formatter};
 use std::io::{ErrorKind, Read};
 
 // Reads until the buffer is full, the input has ended or a read fails; how many bytes stand at its start then.
+// Kept: a loop over `read`, since `read_exact` does not tell how many bytes came before the input ended, and `read_to_end` asks for a `Vec`, which is on the heap.
 pub fn read_full<R: Read>(input: &mut R, s: &mut [u8]) -> usize
     ensures { result ≤ length s.new }
 {
