@@ -37,10 +37,12 @@ module _ (form : Form) (b : List ℕ) (t u : Writer) (n : ℕ) (e : form ≡ lis
   pub lines_room : HasRoom (line_most form * n) u
   lines_room = omega (arith, line_most_lem form n e, x.next_is, x.keeps, ap length held, start)
 
-  pub good_written : (kind : Kind) (s : List ℕ) (w : Writer) → WroteWithin (line_most form * n) (lines_from form kind s 0 n) u w → Written 0 (heading ++ lines_from listing_form kind s 0 n) b w.out.now w.at
-  good_written kind s w y =
+  -- a is what the lent buffer holds where the writer still has it
+  pub good_written : (kind : Kind) (s a : List ℕ) (w : Writer) → (t.out.ghost_name ≡ w.out.ghost_name → a ≡ w.out.now)
+      → WroteWithin (line_most form * n) (lines_from form kind s 0 n) u w → Written 0 (heading ++ lines_from listing_form kind s 0 n) b a w.at
+  good_written kind s a w held_by y =
       let both : Wrote (heading ++ lines_from listing_form kind s 0 n) t w = wrote_then heading (lines_from listing_form kind s 0 n) t u w (omega (arith, ap length held, start)) x (rw e at (unbound y)) in
-      begun (heading ++ lines_from listing_form kind s 0 n) b t w held start both
+      rw (held_by (sym both.same)) (begun (heading ++ lines_from listing_form kind s 0 n) b t w held start both)
 
 -- what is written is no longer than the buffer, which keeps its length
 listed : (kind : Kind) (s t b a : List ℕ) (e : ℕ) → t ≡ listing_of kind s → length a ≡ length b → length b ≡ 15898 → Written 0 t b a e → Listed kind s b a e
