@@ -3,8 +3,7 @@ use mathlib.Core.Path.{◌≡◌, sym, ap, ◌∙◌}
 use mathlib.Core.List.{List, ◌++◌}
 use Prim.Native.Nat.{ℕ, ◌+◌, ◌*◌, ◌≤◌}
 use native.Mathlib.Omega.{arith}
-use lib.ListN.{length, take}
-use lib.Seq.{length-take-le}
+use lib.ListN.{length}
 use Rattle.copier.proofs.Put.{length_piece}
 use Rattle.text.specs.Inner.{Written, Within}
 use Rattle.text.specs.declared.Writer.{Writer}
@@ -52,13 +51,6 @@ listed kind s t b a e t-is k l w =
       fits = omega (arith, length_piece b t 0, ap length w.now_is, w.next_is);
       now_is = rw t-is at w.now_is;
     }
-
--- what a caller takes out of the buffer is there
-pub listed_there : (kind : Kind) (s b a : List ℕ) (n : ℕ) → Listed kind s b a n → n ≤ length a
-listed_there kind s b a n l = omega (arith, length_piece b (listing_of kind s) 0, l.length_is, ap length l.now_is)
-
-pub listed_part : (kind : Kind) (s b a : List ℕ) (n : ℕ) → Listed kind s b a n → n ≡ length (take n a)
-listed_part kind s b a n l = sym (length-take-le n a (listed_there kind s b a n l))
 
 -- c is what the check answered, of the kind that 01 has
 module _ (s : List ℕ) (c : Counted) (is_c : Checks old_kind s c) where

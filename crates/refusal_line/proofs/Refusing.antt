@@ -3,8 +3,7 @@ use mathlib.Core.Path.{◌≡◌, refl, sym}
 use mathlib.Core.List.{List, [], ◌∷◌, ◌++◌, append_assoc, append-nil}
 use Prim.Native.Nat.{ℕ, ◌<◌, ◌≤◌}
 use native.Mathlib.Omega.{arith}
-use lib.ListN.{length, take}
-use lib.Seq.{length-take-le}
+use lib.ListN.{length}
 use Rattle.text.specs.Text.{decimal_of}
 use Rattle.text.specs.Inner.{Short, Within}
 use Rattle.text.specs.declared.Writer.{Writer}
@@ -74,7 +73,3 @@ module _ (b : List ℕ) (number y : ℕ) (p : Places) (t u v : Writer) (e : y �
       refusal_written a w held_by y =
           let whole : WroteWithin 46 (decimal_of number ++ (blank_before (places_in p) ++ (0x0a ∷ []))) t w = rw append_assoc at (within_then placed (within 1 y (omega arith)) (omega (arith, begun))) in
           rw (held_by (sym whole.same)) (begun_within 46 (decimal_of number ++ (blank_before (places_in p) ++ (0x0a ∷ []))) b t w held start whole)
-
--- what a caller takes out of a buffer that just holds it is there
-pub line_part : (p b a : List ℕ) (n : ℕ) → Within 46 0 p b a n → length a ≡ 46 → n ≡ length (take n a)
-line_part p b a n w l = sym (length-take-le n a (omega (arith, w.short)))
