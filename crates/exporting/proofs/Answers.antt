@@ -1,7 +1,7 @@
 -- The export of a good catalogue and of a refused one, in a buffer of 23552 bytes.
 use mathlib.Core.Path.{◌≡◌, refl, sym, ap, ◌∙◌}
 use mathlib.Core.List.{List, [], ◌∷◌}
-use Prim.Native.Nat.{ℕ, ◌+◌, ◌*◌, ◌≤◌}
+use Prim.Native.Nat.{ℕ, ◌*◌, ◌≤◌}
 use native.Mathlib.Omega.{arith}
 use lib.ListN.{length, take}
 use lib.Seq.{length-take-le}
@@ -37,8 +37,10 @@ module _ (form : Form) (b : List ℕ) (t : Writer) (n : ℕ) (e : form ≡ sheet
   pub lines_room : HasRoom (line_most form * n) t
   lines_room = omega (arith, line_most_lem form n e, ap length held, start)
 
-  pub lines_written : (kind : Kind) (s : List ℕ) (w : Writer) → WroteWithin (line_most form * n) (lines_from form kind s 0 n) t w → Written 0 (lines_from sheet_form kind s 0 n) b w.out.now w.at
-  lines_written kind s w x = begun (lines_from sheet_form kind s 0 n) b t w held start (rw e at (unbound x))
+  -- a is what the lent buffer holds where the writer still has it
+  pub lines_written : (kind : Kind) (s a : List ℕ) (w : Writer) → (t.out.ghost_name ≡ w.out.ghost_name → a ≡ w.out.now)
+      → WroteWithin (line_most form * n) (lines_from form kind s 0 n) t w → Written 0 (lines_from sheet_form kind s 0 n) b a w.at
+  lines_written kind s a w held_by x = rw (held_by (sym x.same)) (begun (lines_from sheet_form kind s 0 n) b t w held start (rw e at (unbound x)))
 
 -- the answer says what the catalogue's table says
 exported_said : (m n : ℕ) (l : List (Fault Refusal)) → Numbered catalogue_says l → exported_says (export_answer m (catalogue_answer n (first_fault l))) ≡ said_by (0 ∷ m ∷ []) l

@@ -27,11 +27,11 @@ use Rattle.sheet_line.specs.Line.{line_faults}
 use Rattle.sheet_line.specs.declared.LineFault.{LineFault}
 use Rattle.sheet_line.proofs.Ways.{line_says, line_numbered}
 use Rattle.importing.specs.Import.{Cut, lines_of, most_lines, faults_from, import_faults, first_of, import_answer, imported_says, result_of, import_of, left_by, Imports}
-use Rattle.importing.specs.Inner.{Sounds, checked_as, Made}
+use Rattle.importing.specs.Inner.{checked_as, Made}
 use Rattle.sheet_refusals.specs.Refusals.{import_says}
 use Rattle.sheet_refusals.specs.declared.Refusal.{Refusal}
 use Rattle.sheet_refusals.specs.declared.Refusal.TheVariants.{TooMany, Line, Catalogue}
-use Rattle.importing.proofs.Faulty.{first_both, first_none}
+use Rattle.importing.proofs.Faulty.{first_both, first_none, sounds_of}
 use Rattle.importing.proofs.Making.{records_length}
 
 -- ---- the catalogue, made apart
@@ -63,9 +63,9 @@ module _ (s z m : List ℕ) (n : ℕ) (w : Written 0 (result_of s) z m n) where
     unfolding checked_as left_by
     made_refused x e = record { answer_is = rw (← checked_so, e); now_is = refl }
 
-pub copy_room : (s z m b : List ℕ) (n : ℕ) → Sounds (lines_of s) → length (lines_of s) ≤ most_lines → Written 0 (result_of s) z m n → length b ≡ 10752 → 0 + length (take n m) ≤ length b
+pub copy_room : (s z m b : List ℕ) (n : ℕ) → first_of (faults_from 0 (lines_of s)) ≡ Ok tt → length (lines_of s) ≤ most_lines → Written 0 (result_of s) z m n → length b ≡ 10752 → 0 + length (take n m) ≤ length b
 unfolding result_of
-copy_room s z m b n w h v l = omega (arith, ap length (made_is s z m n v), records_length (lines_of s) w)
+copy_room s z m b n w h v l = omega (arith, ap length (made_is s z m n v), records_length (lines_of s) (sounds_of s w))
 
 -- ---- what is said
 
@@ -119,9 +119,6 @@ module _ (s b : List ℕ) (n : ℕ) (is-n : n ≡ length (lines_of s)) where
   import_many h = imports s b b (Err TooMany) (many_is h) refl
 
   module _ (h : n ≤ most_lines) where
-    pub few : length (lines_of s) ≤ most_lines
-    few = omega arith
-
     module _ (f : Result ⊤ Refusal) (is_f : f ≡ first_of (faults_from 0 (lines_of s))) where
       fault_is : (x : Refusal) → f ≡ Err x → Err x ≡ import_of s
       unfolding import_of import_faults due import_answer

@@ -9,9 +9,10 @@ use Rattle.refusals.proofs.Joined.{joined_none, rows_none}
 use Rattle.sheet_line.specs.Line.{line_faults, line_judged}
 use Rattle.sheet_line.specs.declared.LineFault.{LineFault}
 use Rattle.std.specs.Prelude.{Result, Ok, Err, ⊤}
+use Rattle.sheet_line.specs.Inner.{Sound}
 use Rattle.sheet_line.proofs.Ways.{sound}
 use Rattle.importing.specs.Import.{Cut, lines_of, faults_from, first_of}
-use Rattle.importing.specs.Inner.{Parts, Sounds, none, more}
+use Rattle.importing.specs.Inner.{Parts}
 use Rattle.sheet_refusals.specs.declared.Refusal.{Refusal}
 use Rattle.sheet_refusals.specs.declared.Refusal.TheVariants.{Line}
 
@@ -63,12 +64,16 @@ fault_end rest k p h e = rw h at e
 
 -- ---- where nothing is wrong
 
-pub sounds : (k : ℕ) (ls : List Cut) → faults_from k ls ≡ [] → Sounds ls
+pub data Sounds : List Cut → Type 0 where
+  none : Sounds []
+  more : {l : Cut} {ls : List Cut} → Sound l.bytes → Sounds ls → Sounds (l ∷ ls)
+
+sounds : (k : ℕ) (ls : List Cut) → faults_from k ls ≡ [] → Sounds ls
 unfolding faults_from
 sounds k [] e = none
 sounds k (l ∷ ls) e =
     let p = joined_none (line_rows (k + 1) (line_faults l.ended l.bytes)) (faults_from (k + 1) ls) e in
     more (sound l.ended l.bytes (rows_none ((k + 1) ∷ []) (λ (x : LineFault). Line x (k + 1)) (line_faults l.ended l.bytes) p.0)) (sounds (k + 1) ls p.1)
 
-pub sounds_of : (s : List ℕ) (f : Result ⊤ Refusal) → f ≡ first_of (faults_from 0 (lines_of s)) → f ≡ Ok tt → Sounds (lines_of s)
-sounds_of s f is_f e = sounds 0 (lines_of s) (first_none (faults_from 0 (lines_of s)) (sym is_f ∙ e))
+pub sounds_of : (s : List ℕ) → first_of (faults_from 0 (lines_of s)) ≡ Ok tt → Sounds (lines_of s)
+sounds_of s e = sounds 0 (lines_of s) (first_none (faults_from 0 (lines_of s)) e)

@@ -9,11 +9,13 @@ use lib.Seq.{take_all, take-add, drop-drop, take_at, drop_at, length-take-le}
 use Rattle.text.specs.declared.Writer.{Writer}
 use Rattle.text.specs.InnerWriting.{HasRoom, Wrote}
 use Rattle.text.proofs.Pieces.{wrote_none, wrote_then}
+use Rattle.std.specs.Prelude.{Ok}
 use Rattle.sheet_line.specs.Line.{front_of, characters, record_of}
 use Rattle.sheet_line.specs.Inner.{Sound}
 use Rattle.sheet_line.proofs.Writing.{padded_length}
-use Rattle.importing.specs.Import.{Cut, cut, lines_of, records_of, result_of}
-use Rattle.importing.specs.Inner.{Parts, Sounds, none, more}
+use Rattle.importing.specs.Import.{Cut, cut, lines_of, records_of, faults_from, first_of, result_of}
+use Rattle.importing.specs.Inner.{Parts}
+use Rattle.importing.proofs.Faulty.{Sounds, none, more, sounds_of}
 
 -- ---- lengths
 
@@ -35,11 +37,11 @@ pub record Half (s rest : List ℕ) (u w : Writer) : Type 0 where
   pub wrote : Wrote (take (w.at - u.at) (result_of s)) u w
   pub says : drop (w.at - u.at) (result_of s) ≡ records_of (lines_of rest)
 
-pub half_start : (s : List ℕ) (u : Writer) → Sounds (lines_of s) → Half s s u u
+pub half_start : (s : List ℕ) (u : Writer) → first_of (faults_from 0 (lines_of s)) ≡ Ok tt → Half s s u u
 unfolding result_of
 half_start s u ok =
     let q : u.at - u.at ≡ 0 = omega arith in
-    record { left = ok; from = omega arith; wrote = rw q (wrote_none u); says = rw q refl }
+    record { left = sounds_of s ok; from = omega arith; wrote = rw q (wrote_none u); says = rw q refl }
 
 pub half_end : (s rest : List ℕ) (u w : Writer) → lines_of rest ≡ [] → Half s rest u w → Wrote (result_of s) u w
 unfolding records_of
@@ -64,7 +66,7 @@ module _ (x r y : List ℕ) (e : ℕ) (q : drop e x ≡ r ++ y) where
   next_long : 0 < length r → e + length r ≤ length x
   next_long h = omega (arith, ap length q, length-append r y, length-drop e x)
 
-module _ (s rest l further : List ℕ) (ended : Bool) (u v : Writer) (all : Sounds (lines_of s)) (room : HasRoom (21 * length (lines_of s)) u) (p : Parts rest l ended further) (f : Half s rest u v) where
+module _ (s rest l further : List ℕ) (ended : Bool) (u v : Writer) (all : first_of (faults_from 0 (lines_of s)) ≡ Ok tt) (room : HasRoom (21 * length (lines_of s)) u) (p : Parts rest l ended further) (f : Half s rest u v) where
   opened : Sounds (cut l ended ∷ lines_of further)
   opened = rw p.are at f.left
 
@@ -80,7 +82,7 @@ module _ (s rest l further : List ℕ) (ended : Bool) (u v : Writer) (all : Soun
 
   pub record_room : HasRoom 21 v
   unfolding result_of
-  record_room = omega (arith, ends, record_length l line_sound, records_length (lines_of s) all, f.from, f.wrote.keeps)
+  record_room = omega (arith, ends, record_length l line_sound, records_length (lines_of s) (sounds_of s all), f.from, f.wrote.keeps)
 
   pub half_turn : (w : Writer) → Wrote (record_of l) v w → Half s further u w
   half_turn w x =

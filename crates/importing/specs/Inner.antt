@@ -1,10 +1,9 @@
--- What the functions inside the import ask and answer. No rule of 02 stands here, and the promise of `importing::import` does not cite it.
-use Rattle.std.specs.Prelude.{ℕ, ◌≡◌, ◌<◌, Bool, List, [], ◌∷◌, length, Result, Ok, Err}
+-- What the functions inside the import answer. No rule of 02 stands here, and the promise of `importing::import` does not cite it.
+use Rattle.std.specs.Prelude.{ℕ, ◌≡◌, ◌<◌, Bool, List, ◌∷◌, length, Result, Ok, Err}
 use Rattle.records.specs.Record.{old_kind}
 use Rattle.catalogue.specs.Catalogue.{check_of}
 use Rattle.records.specs.declared.Refusal as of-records
-use Rattle.sheet_line.specs.Inner.{Sound}
-use Rattle.importing.specs.Import.{Cut, cut, lines_of, left_by}
+use Rattle.importing.specs.Import.{cut, lines_of, left_by}
 use Rattle.sheet_refusals.specs.declared.Refusal.{Refusal}
 use Rattle.sheet_refusals.specs.declared.Refusal.TheVariants.{Catalogue}
 
@@ -12,11 +11,6 @@ use Rattle.sheet_refusals.specs.declared.Refusal.TheVariants.{Catalogue}
 pub record Parts (s line : List ℕ) (ended : Bool) (rest : List ℕ) : Type 0 where
   pub are : lines_of s ≡ cut line ended ∷ lines_of rest
   pub less : length rest < length s
-
--- nothing is wrong with the lines
-pub data Sounds : List Cut → Type 0 where
-  none : Sounds []
-  more : {l : Cut} {ls : List Cut} → Sound l.bytes → Sounds ls → Sounds (l ∷ ls)
 
 -- the answer of the catalogue's check, as the import's
 unfoldable pub checked_as : Result ℕ of-records.Refusal → Result ℕ Refusal

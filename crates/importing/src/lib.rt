@@ -1,12 +1,12 @@
 // The import of comma-separated text into a lent catalogue. What it is stands in specs/Import.antt, one line in the crate `sheet_line`, and its refusals in `sheet_refusals`;
-// specs/Inner.antt has what the functions inside ask and answer. The program `import` prints what it gives.
+// specs/Inner.antt has what the functions inside answer. The program `import` prints what it gives.
 #![tactic(auto)]
 
-ghost use Rattle.std.specs.Prelude.{◌≡◌, [], ◌*◌, ◌≤◌, length, MatchOption};
+ghost use Rattle.std.specs.Prelude.{◌≡◌, [], ◌*◌, ◌≤◌, length, Ok, MatchOption};
 ghost use Rattle.text.specs.Inner.{Written};
 ghost use Rattle.text.specs.InnerWriting.{HasRoom, Wrote};
 ghost use Rattle.importing.specs.Import.{lines_of, most_lines, faults_from, first_of, result_of, Imports};
-ghost use Rattle.importing.specs.Inner.{Parts, Sounds, Made};
+ghost use Rattle.importing.specs.Inner.{Parts, Made};
 
 use sheet_refusals::Refusal;
 use text::Writer;
@@ -56,38 +56,46 @@ fn first_fault(s: &[u8]) -> Result<(), Refusal>
     Ok(())
 }
 
-// The records that the lines say, where nothing is wrong with them.
-fn records_of(w: &mut Writer, s: &[u8])
-    requires { (Sounds (lines_of s.now)) × HasRoom (21 * length (lines_of s.now)) w.old }
-    ensures { Wrote (result_of s.now) w.old w.new }
-{
-    let mut rest = s;
-    while let Some((line, _, further)) = next(rest) {
-        sheet_line::record(w, line);
-        rest = further;
+// A text with whose lines nothing is wrong, neither with how many they are nor with one of them.
+#[derive(Clone, Copy)]
+struct Sheet<'a> {
+    bytes: &'a [u8],
+    ghost few: { length (lines_of bytes.now) ≤ most_lines },
+    ghost sound: { first_of (faults_from 0 (lines_of bytes.now)) ≡ Ok tt },
+}
+
+impl<'a> Sheet<'a> {
+    // The records that its lines say.
+    fn records(self, w: &mut Writer)
+        requires { HasRoom (21 * length (lines_of self.bytes.now)) w.old }
+        ensures { Wrote (result_of self.entry.bytes.now) w.old w.new }
+    {
+        let mut rest = self.bytes;
+        while let Some((line, _, further)) = next(rest) {
+            sheet_line::record(w, line);
+            rest = further;
+        }
     }
-}
 
-// The same from the start of a buffer on; the answer is how many bytes they are.
-fn made_in(out: &mut [u8], s: &[u8]) -> usize
-    requires { (Sounds (lines_of s.now)) × (21 * length (lines_of s.now) ≤ length out.old) }
-    ensures { Written 0 (result_of s.now) out.old out.new result }
-{
-    let mut w = Writer { out, at: 0 };
-    records_of(&mut w, s);
-    w.at
-}
+    // The same from the start of a buffer on; the answer is how many bytes they are.
+    fn made_in(self, out: &mut [u8; 10752]) -> usize
+        ensures { Written 0 (result_of self.entry.bytes.now) out.old out.new result }
+    {
+        let mut w = Writer { out, at: 0 };
+        self.records(&mut w);
+        w.at
+    }
 
-// The catalogue that the lines say, made apart and checked, and then copied to the lent buffer where it is good.
-fn made(s: &[u8], out: &mut [u8; 10752]) -> Result<usize, Refusal>
-    requires { (Sounds (lines_of s.now)) × (length (lines_of s.now) ≤ most_lines) }
-    ensures { Made (result_of s.now) out.old out.new result }
-{
-    let mut b = [0u8; 10752];
-    let n = made_in(&mut b, s);
-    let k = catalogue::check(&b[..n]).checked?;
-    copier::copy_at(&b[..n], out, 0);
-    Ok(k)
+    // The catalogue that its lines say, made apart and checked, and then copied to the lent buffer where it is good.
+    fn made(self, out: &mut [u8; 10752]) -> Result<usize, Refusal>
+        ensures { Made (result_of self.entry.bytes.now) out.old out.new result }
+    {
+        let mut b = [0u8; 10752];
+        let n = self.made_in(&mut b);
+        let k = catalogue::check(&b[..n]).checked?;
+        copier::copy_at(&b[..n], out, 0);
+        Ok(k)
+    }
 }
 
 // The import of a text into a lent catalogue, from its start on; the rest of the buffer keeps its bytes. The answer is how many records the catalogue has. What is refused
@@ -99,5 +107,5 @@ pub fn import(s: &[u8], out: &mut [u8; 10752]) -> Result<usize, Refusal>
         return Err(Refusal::TooMany);
     }
     first_fault(s)?;
-    made(s, out)
+    Sheet { bytes: s }.made(out)
 }

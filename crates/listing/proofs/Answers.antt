@@ -3,8 +3,7 @@ use mathlib.Core.Path.{◌≡◌, sym, ap, ◌∙◌}
 use mathlib.Core.List.{List, ◌++◌}
 use Prim.Native.Nat.{ℕ, ◌+◌, ◌*◌, ◌≤◌}
 use native.Mathlib.Omega.{arith}
-use lib.ListN.{length, take}
-use lib.Seq.{length-take-le}
+use lib.ListN.{length}
 use Rattle.copier.proofs.Put.{length_piece}
 use Rattle.text.specs.Inner.{Written, Within}
 use Rattle.text.specs.declared.Writer.{Writer}
@@ -37,10 +36,12 @@ module _ (form : Form) (b : List ℕ) (t u : Writer) (n : ℕ) (e : form ≡ lis
   pub lines_room : HasRoom (line_most form * n) u
   lines_room = omega (arith, line_most_lem form n e, x.next_is, x.keeps, ap length held, start)
 
-  pub good_written : (kind : Kind) (s : List ℕ) (w : Writer) → WroteWithin (line_most form * n) (lines_from form kind s 0 n) u w → Written 0 (heading ++ lines_from listing_form kind s 0 n) b w.out.now w.at
-  good_written kind s w y =
+  -- a is what the lent buffer holds where the writer still has it
+  pub good_written : (kind : Kind) (s a : List ℕ) (w : Writer) → (t.out.ghost_name ≡ w.out.ghost_name → a ≡ w.out.now)
+      → WroteWithin (line_most form * n) (lines_from form kind s 0 n) u w → Written 0 (heading ++ lines_from listing_form kind s 0 n) b a w.at
+  good_written kind s a w held_by y =
       let both : Wrote (heading ++ lines_from listing_form kind s 0 n) t w = wrote_then heading (lines_from listing_form kind s 0 n) t u w (omega (arith, ap length held, start)) x (rw e at (unbound y)) in
-      begun (heading ++ lines_from listing_form kind s 0 n) b t w held start both
+      rw (held_by (sym both.same)) (begun (heading ++ lines_from listing_form kind s 0 n) b t w held start both)
 
 -- what is written is no longer than the buffer, which keeps its length
 listed : (kind : Kind) (s t b a : List ℕ) (e : ℕ) → t ≡ listing_of kind s → length a ≡ length b → length b ≡ 15898 → Written 0 t b a e → Listed kind s b a e
@@ -50,13 +51,6 @@ listed kind s t b a e t-is k l w =
       fits = omega (arith, length_piece b t 0, ap length w.now_is, w.next_is);
       now_is = rw t-is at w.now_is;
     }
-
--- what a caller takes out of the buffer is there
-pub listed_there : (kind : Kind) (s b a : List ℕ) (n : ℕ) → Listed kind s b a n → n ≤ length a
-listed_there kind s b a n l = omega (arith, length_piece b (listing_of kind s) 0, l.length_is, ap length l.now_is)
-
-pub listed_part : (kind : Kind) (s b a : List ℕ) (n : ℕ) → Listed kind s b a n → n ≡ length (take n a)
-listed_part kind s b a n l = sym (length-take-le n a (listed_there kind s b a n l))
 
 -- c is what the check answered, of the kind that 01 has
 module _ (s : List ℕ) (c : Counted) (is_c : Checks old_kind s c) where

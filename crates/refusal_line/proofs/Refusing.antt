@@ -3,8 +3,7 @@ use mathlib.Core.Path.{◌≡◌, refl, sym}
 use mathlib.Core.List.{List, [], ◌∷◌, ◌++◌, append_assoc, append-nil}
 use Prim.Native.Nat.{ℕ, ◌<◌, ◌≤◌}
 use native.Mathlib.Omega.{arith}
-use lib.ListN.{length, take}
-use lib.Seq.{length-take-le}
+use lib.ListN.{length}
 use Rattle.text.specs.Text.{decimal_of}
 use Rattle.text.specs.Inner.{Short, Within}
 use Rattle.text.specs.declared.Writer.{Writer}
@@ -68,12 +67,9 @@ module _ (b : List ℕ) (number y : ℕ) (p : Places) (t u v : Writer) (e : y �
       pub end_fits : HasRoom 1 v
       end_fits = omega (arith, begun, placed.short, placed.keeps)
 
-      pub refusal_written : (w : Writer) → Wrote (0x0a ∷ []) v w → Within 46 0 (refusal_line number (places_in p)) b w.out.now w.at
+      -- a is what the lent buffer holds where the writer still has it
+      pub refusal_written : (a : List ℕ) (w : Writer) → (t.out.ghost_name ≡ w.out.ghost_name → a ≡ w.out.now) → Wrote (0x0a ∷ []) v w → Within 46 0 (refusal_line number (places_in p)) b a w.at
       unfolding refusal_line
-      refusal_written w a =
-          let whole : WroteWithin 46 (decimal_of number ++ (blank_before (places_in p) ++ (0x0a ∷ []))) t w = rw append_assoc at (within_then placed (within 1 a (omega arith)) (omega (arith, begun))) in
-          begun_within 46 (decimal_of number ++ (blank_before (places_in p) ++ (0x0a ∷ []))) b t w held start whole
-
--- what a caller takes out of a buffer that just holds it is there
-pub line_part : (p b a : List ℕ) (n : ℕ) → Within 46 0 p b a n → length a ≡ 46 → n ≡ length (take n a)
-line_part p b a n w l = sym (length-take-le n a (omega (arith, w.short)))
+      refusal_written a w held_by y =
+          let whole : WroteWithin 46 (decimal_of number ++ (blank_before (places_in p) ++ (0x0a ∷ []))) t w = rw append_assoc at (within_then placed (within 1 y (omega arith)) (omega (arith, begun))) in
+          rw (held_by (sym whole.same)) (begun_within 46 (decimal_of number ++ (blank_before (places_in p) ++ (0x0a ∷ []))) b t w held start whole)

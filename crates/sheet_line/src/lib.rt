@@ -122,8 +122,7 @@ impl<'a> Line<'a> {
         let t = inside(self.bytes);
         let k = quotes::count(t);
         quotes::characters(w, t);
-        let m = 15 - k;
-        w.bytes(&spaces[..m]);
+        w.bytes(&spaces[..15 - k]);
     }
 
     // Its flags.

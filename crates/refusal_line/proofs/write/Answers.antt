@@ -1,6 +1,5 @@
 -- `refusal_line::write` meets its contract: three pieces in a row. Assumes nothing.
 use Rattle.refusal_line.proofs.Refusing.{number_fits, places_fit, end_fits, refusal_written}
-use mathlib.Core.Path.{◌≡◌}
 use Rattle.refusal_line.proofs.write.Goals as goal
 
 pub decimal-requires : goal.decimal-requires
@@ -13,4 +12,4 @@ pub byte-requires : goal.byte-requires
 byte-requires c = search end_fits
 
 pub returns : goal.returns
-returns c = let final : c.out-1.given.0 ≡ c.byte.new.self.out.now = c.out-1.given.1.1 cc in rw final (search refusal_written)
+returns c = search refusal_written

@@ -1,6 +1,6 @@
--- `importing::records_of` meets its contract: the records of the lines before the rest are written. Assumes nothing.
+-- `importing::Sheet::records` meets its contract: the records of the lines before the rest are written. Assumes nothing.
 use Rattle.importing.proofs.Making.{half_start, half_turn, half_end, line_sound, record_room}
-use Rattle.importing.proofs.records_of.Goals as goal
+use Rattle.importing.proofs.Sheet.records.Goals as goal
 
 pub loop-line-init : goal.loop-line-init
 loop-line-init c = search half_start

@@ -1,7 +1,7 @@
--- `importing::made` meets its contract: what was made is the part of the buffer that was written. Assumes nothing.
+-- `importing::Sheet::made` meets its contract: what was made is the part of the buffer that was written. Assumes nothing.
 use Rattle.std.proofs.lemmas.Result.{err_from_is_err_and}
 use Rattle.importing.proofs.Answers.{made_fits, made_length, made_good, made_refused, copy_room}
-use Rattle.importing.proofs.made.Goals as goal
+use Rattle.importing.proofs.Sheet.made.Goals as goal
 
 pub slice_bounds-b-end : goal.slice_bounds-b-end
 slice_bounds-b-end c = search made_fits
