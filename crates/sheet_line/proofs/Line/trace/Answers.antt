@@ -7,11 +7,11 @@ use Rattle.sheet_line.proofs.Line.trace.Goals as goal
 pub characters-requires : goal.characters-requires
 characters-requires c = search trace_room
 
-pub overflow_sub-m : goal.overflow_sub-m
-overflow_sub-m c = search trace_few
+pub slice_bounds-spaces-count : goal.slice_bounds-spaces-count
+slice_bounds-spaces-count c = search trace_few
 
-pub slice_bounds-bytes-end : goal.slice_bounds-bytes-end
-slice_bounds-bytes-end c = simp (length-take, length-replicate) (omega arith)
+pub slice_bounds-spaces-end : goal.slice_bounds-spaces-end
+slice_bounds-spaces-end c = simp (length-take, length-replicate) (omega arith)
 
 pub bytes-requires : goal.bytes-requires
 bytes-requires c = search spaces_asked
