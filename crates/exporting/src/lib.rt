@@ -7,7 +7,7 @@ ghost use Rattle.record_line.specs.RecordLine.{lines_from};
 ghost use Rattle.exporting.specs.Export.{sheet_form, Exports};
 
 use record_line::Form;
-use records::{Kind, Refusal};
+use records::{File, Kind, Refusal};
 use text::Writer;
 
 // The form of its lines: commas between the fields, the trace in double quotes.
@@ -22,13 +22,13 @@ fn form() -> Form
     }
 }
 
-// The lines of a good catalogue of n records, from the start of a buffer on; the answer is how many bytes they are.
-fn text_of(kind: Kind, out: &mut [u8], s: &[u8], n: usize) -> usize
-    requires { (length s.now ≡ kind.length * n) × (46 * n ≤ length out.old) }
-    ensures { Written 0 (lines_from sheet_form kind s.now 0 n) out.old out.new result }
+// The lines of a good catalogue's records, from the start of a buffer on; the answer is how many bytes they are.
+fn text_of(out: &mut [u8], file: File) -> usize
+    requires { 46 * file.count ≤ length out.old }
+    ensures { Written 0 (lines_from sheet_form file.entry.kind file.entry.bytes.now 0 file.entry.count) out.old out.new result }
 {
     let mut w = Writer { out, at: 0 };
-    record_line::lines(form(), kind, &mut w, s, n);
+    record_line::lines(form(), &mut w, file);
     w.at
 }
 
@@ -37,6 +37,11 @@ fn text_of(kind: Kind, out: &mut [u8], s: &[u8], n: usize) -> usize
 pub fn export(s: &[u8], out: &mut [u8; 23552]) -> Result<usize, Refusal>
     ensures { Exports s.now out.old out.new result }
 {
-    let n = catalogue::check(s).checked?;
-    Ok(text_of(Kind::old(), out, s, n))
+    let count = catalogue::check(s).checked?;
+    let file = File {
+        kind: Kind::old(),
+        bytes: s,
+        count,
+    };
+    Ok(text_of(out, file))
 }

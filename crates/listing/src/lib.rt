@@ -9,7 +9,7 @@ ghost use Rattle.record_line.specs.RecordLine.{lines_from};
 ghost use Rattle.listing.specs.Listing.{heading, listing_form, Listed};
 
 use record_line::Form;
-use records::Kind;
+use records::{File, Kind};
 use text::Writer;
 
 // The form of its lines: blanks between the fields, the trace in brackets.
@@ -24,14 +24,14 @@ fn form() -> Form
     }
 }
 
-// A good catalogue of n records: the heading and the lines.
-fn good(kind: Kind, out: &mut [u8], s: &[u8], n: usize) -> usize
-    requires { (length s.now ≡ kind.length * n) × (26 + 31 * n ≤ length out.old) }
-    ensures { Written 0 (heading ++ lines_from listing_form kind s.now 0 n) out.old out.new result }
+// A good catalogue: the heading and the lines.
+fn good(out: &mut [u8], file: File) -> usize
+    requires { 26 + 31 * file.count ≤ length out.old }
+    ensures { Written 0 (heading ++ lines_from listing_form file.entry.kind file.entry.bytes.now 0 file.entry.count) out.old out.new result }
 {
     let mut w = Writer { out, at: 0 };
     w.bytes(b"circuit label trace flags\n");
-    record_line::lines(form(), kind, &mut w, s, n);
+    record_line::lines(form(), &mut w, file);
     w.at
 }
 
@@ -41,7 +41,14 @@ pub fn list(s: &[u8], out: &mut [u8; 15898]) -> usize
     ensures { Listed old_kind s.now out.old out.new result }
 {
     match catalogue::check(s).checked {
-        Ok(n) => good(Kind::old(), out, s, n),
+        Ok(count) => {
+            let file = File {
+                kind: Kind::old(),
+                bytes: s,
+                count,
+            };
+            good(out, file)
+        }
         Err(x) => refusal_line::write(out, x.number(), x.places()),
     }
 }

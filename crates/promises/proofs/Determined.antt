@@ -99,8 +99,10 @@ use Rattle.records.proofs.Kind.old.Kinds as records-kind-old
 use Rattle.records.proofs.Kind.old.Reads as records-kind-old-promise
 use Rattle.records.proofs.Kind.record_at.Kinds as records-kind-record-at
 use Rattle.records.proofs.Kind.record_at.Reads as records-kind-record-at-promise
-use Rattle.records.proofs.Kind.fault.Kinds as records-kind-fault
-use Rattle.records.proofs.Kind.fault.Reads as records-kind-fault-promise
+use Rattle.records.proofs.File.record.Kinds as records-file-record
+use Rattle.records.proofs.File.record.Reads as records-file-record-promise
+use Rattle.records.proofs.Record.fault.Kinds as records-record-fault
+use Rattle.records.proofs.Record.fault.Reads as records-record-fault-promise
 use Rattle.records.proofs.Record.label.Kinds as records-record-label
 use Rattle.records.proofs.Record.label.Reads as records-record-label-promise
 use Rattle.records.proofs.Record.flags.Kinds as records-record-flags
@@ -306,11 +308,14 @@ records_kind_old_determined κs a x y s t p q = p ∙ sym q
 pub records_kind_record_at_determined : Determines {O = List ℕ} 1 records-kind-record-at.ps records-kind-record-at.r records-kind-record-at-promise.Post (λ κs r e. r.bytes.now)
 records_kind_record_at_determined κs a x y s t p q = p ∙ sym q
 
+pub records_file_record_determined : Determines {O = List ℕ} 1 records-file-record.ps records-file-record.r records-file-record-promise.Post (λ κs r e. r.bytes.now)
+records_file_record_determined κs a x y s t p q = p ∙ sym q
+
 pub records_record_trace_determined : Determines {O = List ℕ} 1 records-record-trace.ps records-record-trace.r records-record-trace-promise.Post (λ κs r e. r.now)
 records_record_trace_determined κs a x y s t p q = p.0 ∙ sym q.0
 
-pub records_kind_fault_determined : Determines {O = Result ⊤ of-records.Refusal} 1 records-kind-fault.ps records-kind-fault.r records-kind-fault-promise.Post (λ κs r e. r)
-records_kind_fault_determined κs a x y s t p q = p ∙ sym q
+pub records_record_fault_determined : Determines {O = Result ⊤ of-records.Refusal} 1 records-record-fault.ps records-record-fault.r records-record-fault-promise.Post (λ κs r e. r)
+records_record_fault_determined κs a x y s t p q = p ∙ sym q
 
 pub records_record_label_determined : Determines {O = ℕ} 1 records-record-label.ps records-record-label.r records-record-label-promise.Post (λ κs r e. r)
 records_record_label_determined κs a x y s t p q = p ∙ sym q

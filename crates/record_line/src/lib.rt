@@ -9,7 +9,7 @@ ghost use Rattle.records.specs.Record.{circuit_in, flags_in};
 ghost use Rattle.record_line.specs.RecordLine.{number_and_label, characters_of, trace_and_flags, line_of, lines_from};
 ghost use Rattle.record_line.specs.Inner.{characters_most, line_most};
 
-use records::{Kind, Record};
+use records::{File, Record};
 use text::Writer;
 
 // What a line has between its fields, before and behind the trace, and whether each quote in the trace is doubled.
@@ -80,12 +80,12 @@ fn line(form: Form, w: &mut Writer, r: Record)
     w.byte(0x0a);
 }
 
-// The lines of the n records of a file.
-pub fn lines(form: Form, kind: Kind, w: &mut Writer, s: &[u8], n: usize)
-    requires { (length s.now ≡ kind.length * n) × HasRoom (line_most form * n) w.old }
-    ensures { WroteWithin (line_most form * n) (lines_from form kind s.now 0 n) w.old w.new }
+// The lines of a file's records.
+pub fn lines(form: Form, w: &mut Writer, file: File)
+    requires { HasRoom (line_most form * file.count) w.old }
+    ensures { WroteWithin (line_most form * file.entry.count) (lines_from form file.entry.kind file.entry.bytes.now 0 file.entry.count) w.old w.new }
 {
-    for k in 0..n {
-        line(form, w, kind.record_at(s, k));
+    for k in 0..file.count {
+        line(form, w, file.record(k));
     }
 }

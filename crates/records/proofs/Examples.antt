@@ -1,4 +1,5 @@
 -- A further kind of record serves as 01's does: what is proved over a kind holds of it too. Assumes nothing.
+use mathlib.Core.List.{[], ◌∷◌}
 use native.Mathlib.Omega.{arith}
 use Rattle.records.specs.Fits.{Serves}
 use Rattle.records.specs.declared.Kind.{Kind}
@@ -8,4 +9,4 @@ longer_serves = record { holds = omega arith; short = omega arith }
 
 -- 24 bytes, 5A 4E: the fields, and three bytes more
 abbrev pub longer : Kind
-longer = record { length = 24; first = 0x5a; second = 0x4e; serves = longer_serves }
+longer = record { length = 24; mark = 0x5a ∷ 0x4e ∷ []; serves = longer_serves }

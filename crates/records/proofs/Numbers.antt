@@ -12,7 +12,6 @@ use Rattle.settings.specs.Settings.{trace_faults}
 use Rattle.settings.proofs.Refuses.{trace_numbered}
 use Rattle.records.specs.Refusals.{catalogue_places, catalogue_says, places_given, places_in}
 use Rattle.records.specs.Faults.{record_faults}
-use Rattle.records.specs.declared.Kind.{Kind}
 use Rattle.records.specs.declared.Places.{Places}
 use Rattle.records.specs.declared.Refusal.{Refusal}
 use Rattle.records.specs.declared.Refusal.TheVariants.{Length, Mark, Circuit, Label, Trace, Flags, Repeated, NotListed}
@@ -28,9 +27,9 @@ trace_rows : (place : ℕ) (trace : List ℕ) → Numbered catalogue_says (rows_
 unfolding catalogue_says trace_says behind
 trace_rows place trace = numbered_rows trace_says catalogue_says (place ∷ []) (Trace place) (λ x n ps e. ap (behind place) e) (trace_faults trace) (trace_numbered trace)
 
-pub record_numbered : (kind : Kind) (place : ℕ) (r : List ℕ) → Numbered catalogue_says (record_faults kind place r)
+pub record_numbered : (mark : List ℕ) (place : ℕ) (r : List ℕ) → Numbered catalogue_says (record_faults mark place r)
 unfolding record_faults catalogue_says
-record_numbered kind place r = search (numbered_row, numbered_both, numbered_last, trace_rows)
+record_numbered mark place r = search (numbered_row, numbered_both, numbered_last, trace_rows)
 
 -- ---- the places that are answered
 

@@ -67,9 +67,9 @@ padded t = t ++ replicate (15 - length t) 0x20
 -- the mark, the number (two bytes, high first) and the label
 unfoldable pub front_of : List ℕ → List ℕ
 front_of s =
-    old_kind.first ∷ old_kind.second
-    ∷ value_from 0 (number_field s) / 256 ∷ value_from 0 (number_field s) % 256
-    ∷ label_value (label_field s) ∷ []
+    old_kind.mark
+    ++ (value_from 0 (number_field s) / 256 ∷ value_from 0 (number_field s) % 256
+    ∷ label_value (label_field s) ∷ [])
 
 -- in 01's layout
 unfoldable pub record_of : List ℕ → List ℕ

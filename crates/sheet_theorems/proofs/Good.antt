@@ -43,15 +43,15 @@ good_faults s n e =
 
 -- ---- one record
 
-module _ (place : ℕ) (r : List ℕ) (e : record_faults old_kind place r ≡ []) where
-  parts : (marked old_kind r ≡ true) × ((circuit_refused (circuit_in r) ≡ false) × ((trace_faults (trace_in r) ≡ []) × (flags_refused (flags_in r) ≡ false)))
+module _ (place : ℕ) (r : List ℕ) (e : record_faults old_kind.mark place r ≡ []) where
+  parts : (marked old_kind.mark r ≡ true) × ((circuit_refused (circuit_in r) ≡ false) × ((trace_faults (trace_in r) ≡ []) × (flags_refused (flags_in r) ≡ false)))
   unfolding record_faults
   parts =
-      let a = due_none (not (marked old_kind r)) _ _ e in
+      let a = due_none (not (marked old_kind.mark r)) _ _ e in
       let b = due_none (circuit_refused (circuit_in r)) _ _ a.1 in
       let c = due_none (label_refused (label_in r)) _ _ b.1 in
       let d = joined_none _ _ c.1 in
-      (not-false (marked old_kind r) a.0, (b.0, (rows_none (place ∷ []) (Trace place) (trace_faults (trace_in r)) d.0, due_false (flags_refused (flags_in r)) _ d.1)))
+      (not-false (marked old_kind.mark r) a.0, (b.0, (rows_none (place ∷ []) (Trace place) (trace_faults (trace_in r)) d.0, due_false (flags_refused (flags_in r)) _ d.1)))
 
   pub mark_first : get_or r 0 0 ≡ 0x5a
   unfolding marked
@@ -79,6 +79,6 @@ long_at : (s : List ℕ) (k : ℕ) → 21 * k + 21 ≤ length s → length (reco
 unfolding record_at
 long_at s k h = simp (length-take, length-drop) (omega arith)
 
-pub fair_at : (s : List ℕ) (k place : ℕ) → Bytes s → 21 * k + 21 ≤ length s → record_faults old_kind place (record_at old_kind s k) ≡ [] → Fair (record_at old_kind s k)
+pub fair_at : (s : List ℕ) (k place : ℕ) → Bytes s → 21 * k + 21 ≤ length s → record_faults old_kind.mark place (record_at old_kind s k) ≡ [] → Fair (record_at old_kind s k)
 fair_at s k place b h e =
     fair place (record_at old_kind s k) e (long_at s k h) (low_at s k 3 b (omega arith)) (low_at s k 4 b (omega arith))

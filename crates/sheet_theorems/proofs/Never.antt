@@ -30,7 +30,7 @@ begins : (s : List ℕ) (n : ℕ) → 1 ≤ length s → length s ≡ 21 * n →
 unfolding faults_from record_at
 begins s zero h l e = absurd (omega arith)
 begins s (suc n) h l e =
-    let p = joined_none (record_faults old_kind 1 (record_at old_kind s 0)) (faults_from old_kind s 1 n) e in
+    let p = joined_none (record_faults old_kind.mark 1 (record_at old_kind s 0)) (faults_from old_kind s 1 n) e in
     sym (get_or-take 21 s 0 0 (omega arith)) ∙ mark_first 1 (record_at old_kind s 0) p.0
 
 pub never_good : (number : ℕ) (places : List ℕ) (n : ℕ) → check_of old_kind (refusal_line number places) ≡ Ok n → ⊥

@@ -94,7 +94,7 @@ unfolding catalogue.faults_from lines_from lines_of faults_from records_of
 same s k zero j b h e = record { many = refl; fine = refl; says = refl }
 same s k (suc m) j b h e =
     let r = record_at old_kind s k in
-    let p = joined_none (record_faults old_kind (k + 1) r) (catalogue.faults_from old_kind s (k + 1) m) e in
+    let p = joined_none (record_faults old_kind.mark (k + 1) r) (catalogue.faults_from old_kind s (k + 1) m) e in
     let f = fair_at s k (k + 1) b (omega arith) p.0 in
     let i = same s (k + 1) m (j + 1) b (omega arith) p.1 in
     rw (lines_joined (line_of sheet_form r) (lines_from sheet_form old_kind s (k + 1) m) (line_lacks r f)) (step s k m j (line_of sheet_form r) (lines_of (lines_from sheet_form old_kind s (k + 1) m)) (line_accepted r f) (line_says_lem r f) i)

@@ -5,11 +5,11 @@ use Rattle.catalogue.proofs.check_as.Goals as goal
 pub returns-then-length_refused : goal.returns-then-length_refused
 returns-then-length_refused c = search check_length
 
-pub first_fault-requires : goal.first_fault-requires
-first_fault-requires c = search length_whole
+pub invariant_of-file : goal.invariant_of-file
+invariant_of-file c = record { whole = search length_whole }
 
 pub first_repeat-v-requires : goal.first_repeat-v-requires
-first_repeat-v-requires c = search (length_whole, length_most)
+first_repeat-v-requires c = search length_most
 
 pub returns-in-Err : goal.returns-in-Err
 returns-in-Err c = search check_fault

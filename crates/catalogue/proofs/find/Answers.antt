@@ -1,13 +1,9 @@
 -- `catalogue::find` meets its contract: no record before m has the number, so those from m on decide. Assumes nothing.
-use Rattle.records.proofs.Fields.{record_within}
 use Rattle.catalogue.proofs.Scan.{find_start, find_hit, find_turn, find_end}
 use Rattle.catalogue.proofs.find.Goals as goal
 
 pub loop-m-init : goal.loop-m-init
 loop-m-init c = search find_start
-
-pub record_at-r-requires : goal.record_at-r-requires
-record_at-r-requires c = search record_within
 
 pub returns-then-from-number : goal.returns-then-from-number
 returns-then-from-number c = search find_hit

@@ -5,4 +5,4 @@ use Rattle.catalogue.specs.Catalogue.{having, first_in}
 use Rattle.catalogue.proofs.find.Given as goal
 
 abbrev pub invariant-loop-m : goal.invariant-loop-m
-invariant-loop-m l = first_in (having l.kind l.s l.number l.m (l.n - l.m)) ≡ first_in (having l.kind l.s l.number 0 l.n)
+invariant-loop-m l = first_in (having l.file.kind l.file.bytes.now l.number l.m (l.file.count - l.m)) ≡ first_in (having l.file.kind l.file.bytes.now l.number 0 l.file.count)

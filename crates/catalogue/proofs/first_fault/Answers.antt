@@ -1,14 +1,10 @@
 -- `catalogue::first_fault` meets its contract: nothing is wrong with the records before k, so those from k on decide. Assumes nothing.
-use Rattle.records.proofs.Fields.{record_within}
 use Rattle.catalogue.proofs.Scan.{faults_start, fault_hit, fault_turn, fault_end}
 use Rattle.std.proofs.lemmas.Result.{err_from_is_err_and}
 use Rattle.catalogue.proofs.first_fault.Goals as goal
 
 pub loop-k-init : goal.loop-k-init
 loop-k-init c = search faults_start
-
-pub record_at-requires : goal.record_at-requires
-record_at-requires c = search record_within
 
 pub returns-in_err-fault : goal.returns-in_err-fault
 returns-in_err-fault c =

@@ -6,4 +6,4 @@ use Rattle.catalogue.specs.Catalogue.{faults_from}
 use Rattle.catalogue.proofs.first_fault.Given as goal
 
 abbrev pub invariant-loop-k : goal.invariant-loop-k
-invariant-loop-k l = first_fault (faults_from l.kind l.s l.k (l.n - l.k)) ≡ first_fault (faults_from l.kind l.s 0 l.n)
+invariant-loop-k l = first_fault (faults_from l.file.kind l.file.bytes.now l.k (l.file.count - l.k)) ≡ first_fault (faults_from l.file.kind l.file.bytes.now 0 l.file.count)

@@ -8,7 +8,7 @@ use Rattle.pairs.proofs.first_repeat.Given as goal
 
 -- a later record has fewer than 512 before it: so the count is far from its type's end
 abbrev pub invariant-loop-i : goal.invariant-loop-i
-invariant-loop-i l = (l.pairs ≤ most_records * l.j + l.i) × Left l.kind l.s l.pairs (pairs_with l.j l.i (l.j - l.i) ++ pairs_from (l.j + 1) (l.n - (l.j + 1))) (visit l.kind l.s (pairs_from 0 l.n))
+invariant-loop-i l = (l.pairs ≤ most_records * l.j + l.i) × Left l.file.kind l.file.bytes.now l.pairs (pairs_with l.j l.i (l.j - l.i) ++ pairs_from (l.j + 1) (l.file.count - (l.j + 1))) (visit l.file.kind l.file.bytes.now (pairs_from 0 l.file.count))
 
 abbrev pub invariant-loop-j : goal.invariant-loop-j
-invariant-loop-j l = (l.pairs ≤ most_records * l.j) × Left l.kind l.s l.pairs (pairs_from l.j (l.n - l.j)) (visit l.kind l.s (pairs_from 0 l.n))
+invariant-loop-j l = (l.pairs ≤ most_records * l.j) × Left l.file.kind l.file.bytes.now l.pairs (pairs_from l.j (l.file.count - l.j)) (visit l.file.kind l.file.bytes.now (pairs_from 0 l.file.count))

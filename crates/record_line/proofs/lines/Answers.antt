@@ -1,13 +1,9 @@
 -- `record_line::lines` meets its contract: after k turns the lines of the first k records are written. Assumes nothing.
-use Rattle.records.proofs.Fields.{record_within}
 use Rattle.record_line.proofs.Rows.{lines_none, line_room, lines_turn, lines_end}
 use Rattle.record_line.proofs.lines.Goals as goal
 
 pub loop-k-init : goal.loop-k-init
 loop-k-init c = search lines_none
-
-pub record_at-requires : goal.record_at-requires
-record_at-requires c = search record_within
 
 pub line-requires : goal.line-requires
 line-requires c = search line_room

@@ -6,4 +6,4 @@ use Rattle.record_line.specs.Inner.{line_most}
 use Rattle.record_line.proofs.lines.Given as goal
 
 abbrev pub invariant-loop-k : goal.invariant-loop-k
-invariant-loop-k l = WroteWithin (line_most l.form * l.k) (lines_from l.form l.kind l.s 0 l.k) l.initial.w l.w
+invariant-loop-k l = WroteWithin (line_most l.form * l.k) (lines_from l.form l.file.kind l.file.bytes.now 0 l.k) l.initial.w l.w

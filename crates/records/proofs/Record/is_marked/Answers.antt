@@ -1,7 +1,7 @@
--- `records::Kind::is_marked` meets its contract. Assumes nothing.
+-- `records::Record::is_marked` meets its contract. Assumes nothing.
 use Rattle.records.specs.Record.{marked}
 use mathlib.Core.Path.{refl}
-use Rattle.records.proofs.Kind.is_marked.Goals as goal
+use Rattle.records.proofs.Record.is_marked.Goals as goal
 
 pub returns : goal.returns
 unfolding marked

@@ -1,6 +1,6 @@
--- `records::Kind::fault` meets its contract: the first test that says so decides, in the order of `record_faults`. Assumes nothing.
+-- `records::Record::fault` meets its contract: the first test that says so decides, in the order of `record_faults`. Assumes nothing.
 use Rattle.records.proofs.Ways.{fault_mark, fault_circuit, fault_label, fault_trace, fault_flags, fault_none}
-use Rattle.records.proofs.Kind.fault.Goals as goal
+use Rattle.records.proofs.Record.fault.Goals as goal
 
 pub returns-then-not-is_marked : goal.returns-then-not-is_marked
 returns-then-not-is_marked c = search fault_mark
