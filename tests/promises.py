@@ -64,7 +64,7 @@ GATHERED = re.compile(r"record \{ (.*) \}")
 # the answer, the bytes of one that is a slice, what a parameter has at exit
 READ = re.compile(r"r|r(?:\.bytes)?\.now|e(?:\.1)*\.0\.now(?:\.at|\.out\.now)?")
 # structs that are a lent part and nothing else: the reading that has its bytes
-SHOWN = {"Record": "r.bytes.now"}
+SHOWN = {"Record": "r.bytes.now", "Record<'a>": "r.bytes.now"}
 # structs that are a lent buffer and the place in it: the parts of what one has at exit
 HELD = {"Writer": [".at", ".out.now"]}
 # a type of the code: whether it is lent, for writing, and what is
@@ -231,7 +231,7 @@ def outcome_of(function):
 def hidden(function):
     """The types of a function's parameters and of its answer in which something is lent: what it leaves there is read by no theorem of this form."""
     parameters, result = names.signatures()[function]
-    found = [kind for kind in [*(kind for _, kind in parameters), result] if re.search("[&']", LENT.match(kind)["what"])]
+    found = [kind for kind in [*(kind for _, kind in parameters), result] if kind not in SHOWN and re.search("[&']", LENT.match(kind)["what"])]
     return found + [result] * bool(LENT.match(result)["writing"])
 
 

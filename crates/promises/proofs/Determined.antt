@@ -420,7 +420,7 @@ quotes_characters_determined κs a x y s t p q = held_same (p.next_is ∙ sym q.
 pub quotes_double_determined : Determines {O = Held} 3 quotes-double.ps quotes-double.r quotes-double-promise.Post (λ κs r e. record { at = e.0.now.at; out = e.0.now.out.now })
 quotes_double_determined κs a x y s t p q = held_same (p.next_is ∙ sym q.next_is) (p.now_is ∙ sym q.now_is)
 
-pub record_line_lines_determined : Determines {O = Held} 3 record-line-lines.ps record-line-lines.r record-line-lines-promise.Post (λ κs r e. record { at = e.1.1.0.now.at; out = e.1.1.0.now.out.now })
+pub record_line_lines_determined : Determines {O = Held} 3 record-line-lines.ps record-line-lines.r record-line-lines-promise.Post (λ κs r e. record { at = e.1.0.now.at; out = e.1.0.now.out.now })
 record_line_lines_determined κs a x y s t p q = held_same (p.next_is ∙ sym q.next_is) (p.now_is ∙ sym q.now_is)
 
 pub refusal_line_write_determined : Determines {O = Left} 1 refusal-line-write.ps refusal-line-write.r refusal-line-write-promise.Post (λ κs r e. record { answer = r; buffer = e.0.now })
