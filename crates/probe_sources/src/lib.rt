@@ -18,7 +18,7 @@ use shape::Adjustment;
 fn pack_source(s: container_source::State) -> u32
     ensures { (result ≡ packed_source s) × (result < 65536) }
 {
-    u32::from(s.place) * 256 + u32::from(s.parity)
+    s.place as u32 * 256 + s.parity as u32
 }
 
 // The place that a refusal names, in a byte; 0 where it names none.
@@ -31,9 +31,7 @@ fn pack_place(p: usize) -> u32
 fn pack_sent(a: Result<(), Refusal>, s: container_source::State) -> u32
     ensures { result ≡ packed_sent (record { answer = a; state = s }) }
 {
-    pack_place(refusals::place(a)) * 16777216
-        + u32::from(refusals::number(a)) * 65536
-        + pack_source(s)
+    pack_place(refusals::place(a)) * 16777216 + refusals::number(a) as u32 * 65536 + pack_source(s)
 }
 
 // The state of a container source that has sent nothing.
@@ -76,15 +74,15 @@ pub fn probe_container(
 fn pack_unit(s: unit_source::State) -> u64
     ensures { (result ≡ packed_unit s) × (result < 16777216) }
 {
-    u64::from(s.offset) * 256 + u64::from(s.wait)
+    s.offset as u64 * 256 + s.wait as u64
 }
 
 fn pack_made(a: Result<u8, Refusal>, s: unit_source::State) -> u64
     ensures { result ≡ packed_made (made_by a s) }
 {
     match a {
-        Ok(ended) => u64::from(ended) * 16777216 + pack_unit(s),
-        Err(x) => u64::from(refusals::number(Err(x))) * 4294967296 + pack_unit(s),
+        Ok(ended) => ended as u64 * 16777216 + pack_unit(s),
+        Err(x) => refusals::number(Err(x)) as u64 * 4294967296 + pack_unit(s),
     }
 }
 
