@@ -8,8 +8,7 @@ use borrow.Author.Tests.{leb-true, le-leb}
 use lib.Dec.{eqb, leb}
 use Rattle.laws.proofs.Tests.{by_test, and_left}
 use Rattle.counts.specs.Counts.{more, run_on}
-use Rattle.word.specs.declared.Ndf.TheVariants as ndf
-use Rattle.word.specs.Word.{value_of, good}
+use Rattle.word.specs.Word.{normal, value_of, good}
 use Rattle.shape.specs.Shape.{offset_after}
 use Rattle.shape.specs.declared.Adjustment.{Adjustment}
 use Rattle.shape.specs.declared.Adjustment.TheVariants as offset
@@ -66,9 +65,9 @@ rows_in_lem rows Invalid = rw (more_in rows.invalids 8)
 run_in_lem : (run : Run) (top w : ℕ) → run_in top (run_after run top w) ≡ true
 unfolding run_after run_on
 run_in_lem run top w =
-    by_test (λ (r : Run). run_in top r ≡ true) (good ndf.Normal top w)
+    by_test (λ (r : Run). run_in top r ≡ true) (good normal top w)
     (λ g.
-    let low = le-leb (value_of w) top (good_low ndf.Normal top w g) in
+    let low = le-leb (value_of w) top (good_low normal top w g) in
     by_test (λ (n : ℕ). (leb n 3 && leb (value_of w) top) ≡ true) (eqb run.value (value_of w)) (λ _. rw (more_in run.count 3, low)) (λ _. low))
     (λ _. le-leb 0 top (omega arith))
 

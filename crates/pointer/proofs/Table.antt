@@ -8,7 +8,7 @@ use borrow.Author.Tests.{le-leb}
 use lib.Count.{ones, ones_in}
 use lib.ListN.{replicate}
 use Rattle.counts.specs.Counts.{more, run_on}
-use Rattle.word.specs.Word.{kind_of, ss_of, value_of, same_kind, of_kind, good, inverted}
+use Rattle.word.specs.Word.{kind_of, ss_of, number_of, value_of, of_kind, good, inverted}
 use Rattle.shape.specs.Shape.{up_of, down_of, offset_after}
 use Rattle.pointer_rules.specs.Rules.{no_run, run_after, elsewhere, adjustment, in_normal, in_alarm_or_lost, by_state, taken_as}
 use Rattle.pointer_state.specs.declared.State.{State}
@@ -60,7 +60,7 @@ pub record Outcome : Type 0 where
 
 -- what the machine makes of a row's offset and word, and what the row says
 unfoldable pub found : ℕ → Row → Outcome
-unfolding pointer_step taken_in run_after run_on elsewhere up_of down_of offset_after adjustment in_normal in_alarm_or_lost by_state taken_as rows_after alarm_word renewed new_data invalid state_after is_normal wait_after kind_of ss_of value_of same_kind of_kind good inverted ones ones_in
+unfolding pointer_step taken_in run_after run_on elsewhere up_of down_of offset_after adjustment in_normal in_alarm_or_lost by_state taken_as rows_after alarm_word renewed new_data invalid state_after is_normal wait_after kind_of ss_of number_of value_of of_kind good inverted ones ones_in
 found top r = let a = pointer_step (before (Normal r.offset)) top r.word in record { taken = a.taken; state = a.pointer.state }
 
 pub said : Row → Outcome

@@ -8,9 +8,7 @@ use native.Mathlib.Omega.{arith}
 use borrow.Author.Tests.{leb-true}
 use lib.Dec.{eqb, ltb, leb}
 use Rattle.laws.proofs.Tests.{by_test, and_left, and_right}
-use Rattle.word.specs.declared.Ndf.{Ndf}
-use Rattle.word.specs.declared.Ndf.TheVariants as ndf
-use Rattle.word.specs.Word.{value_of, of_kind, good, bits_i, bits_d, inverted}
+use Rattle.word.specs.Word.{normal, enabled, value_of, of_kind, good, bits_i, bits_d, inverted}
 use Rattle.shape.specs.Shape.{offset_after}
 use Rattle.shape.specs.declared.Adjustment.{Adjustment}
 use Rattle.pointer_rules.specs.Rules.{run_after, elsewhere, adjustment, in_normal, in_alarm_or_lost, by_state, taken_as}
@@ -37,7 +35,7 @@ Names top state Invalid = Unit {0}
 
 -- ---- good, run_after
 
-pub good_low : (k : Ndf) (top w : ℕ) → good k top w ≡ true → value_of w ≤ top
+pub good_low : (k top w : ℕ) → good k top w ≡ true → value_of w ≤ top
 unfolding good
 good_low k top w h = leb-true (value_of w) top (and_right (of_kind k w) (leb (value_of w) top) h)
 
@@ -45,8 +43,8 @@ good_low k top w h = leb-true (value_of w) top (and_right (of_kind k w) (leb (va
 pub run_low : (run : Run) (top w : ℕ) → leb 3 (run_after run top w).count ≡ true → value_of w ≤ top
 unfolding run_after
 run_low run top w =
-    by_test (λ (r : Run). leb 3 r.count ≡ true → value_of w ≤ top) (good ndf.Normal top w)
-    (λ g _. good_low ndf.Normal top w g)
+    by_test (λ (r : Run). leb 3 r.count ≡ true → value_of w ≤ top) (good normal top w)
+    (λ g _. good_low normal top w g)
     (λ _ e. absurd (omega (arith, leb-true 3 0 e)))
 
 -- ---- taken_as
@@ -61,12 +59,12 @@ module _ (top : ℕ) where
 
   outside_names : (state : State) (w : ℕ) → Names top state (in_alarm_or_lost top w)
   unfolding in_alarm_or_lost Names
-  outside_names state w = by_test (Names top state) (good ndf.Normal top w) (λ _. tt) (λ _. tt)
+  outside_names state w = by_test (Names top state) (good normal top w) (λ _. tt) (λ _. tt)
 
   by_state_names : (state : State) (wait w : ℕ) → Names top state (by_state state wait top w)
   unfolding by_state in_normal Names
   by_state_names (Normal at) wait w =
-      by_test (Names top (Normal at)) (of_kind ndf.Normal w)
+      by_test (Names top (Normal at)) (of_kind normal w)
       (λ _. by_test (Names top (Normal at)) (eqb (value_of w) at) (λ _. tt)
       (λ _. by_test (Names top (Normal at)) (ltb wait 3) (λ _. tt)
       (λ _. adjustment_names at (inverted bits_i w at) (inverted bits_d w at))))
@@ -79,7 +77,7 @@ module _ (top : ℕ) where
   taken_names state run wait w =
       let alike = (run_after run top w).count in
       by_test (Names top state) (eqb w 0xffff) (λ _. tt)
-      (λ _. by_test (Names top state) (good ndf.Enabled top w) (good_low ndf.Enabled top w)
+      (λ _. by_test (Names top state) (good enabled top w) (good_low enabled top w)
       (λ _. by_test (Names top state) (leb 3 alike && elsewhere state (value_of w))
       (λ e. run_low run top w (and_left (leb 3 alike) (elsewhere state (value_of w)) e))
       (λ _. by_state_names state wait w)))

@@ -7,8 +7,7 @@ use Prim.Native.Nat.{ℕ, ◌≤◌, ◌<◌}
 use lib.Dec.{eqb, leb}
 use borrow.Author.Tests.{eq-eqb, ne_eqb, eqb-true, lt-ltb, le-ltb, le-leb, lt-leb}
 use Rattle.counts.specs.Counts.{run_on}
-use Rattle.word.specs.declared.Ndf.TheVariants as ndf
-use Rattle.word.specs.Word.{value_of, of_kind, good, bits_i, bits_d, inverted}
+use Rattle.word.specs.Word.{normal, enabled, value_of, of_kind, good, bits_i, bits_d, inverted}
 use Rattle.shape.specs.Shape.{offset_after}
 use Rattle.shape.specs.declared.Adjustment.{Adjustment}
 use Rattle.shape.specs.declared.Adjustment.TheVariants as offset
@@ -22,7 +21,7 @@ use Rattle.pointer_rules.specs.declared.Run.{Run}
 
 -- ---- the run
 
-module _ (run : Run) (top w : ℕ) (in-run : Bool) (in-run-is : in-run ≡ good ndf.Normal top w) where
+module _ (run : Run) (top w : ℕ) (in-run : Bool) (in-run-is : in-run ≡ good normal top w) where
   pub run_goes_on : (v n : ℕ) → in-run ≡ true → v ≡ value_of w → n ≡ run_on (eqb run.value v) run.count 3 → record { count = n; value = v } ≡ run_after run top w
   unfolding run_after
   run_goes_on v n h v-is n-is = rw (← in-run-is, h, ← v-is, n-is) refl
@@ -47,7 +46,7 @@ module _ (top at i d : ℕ) where
     unfolding adjustment
     adjusts_neither down = rw (up, down) refl
 
-module _ (at wait top w : ℕ) (in-kind : Bool) (in-kind-is : in-kind ≡ of_kind ndf.Normal w) where
+module _ (at wait top w : ℕ) (in-kind : Bool) (in-kind-is : in-kind ≡ of_kind normal w) where
   pub normal_other_kind : in-kind ≡ false → Invalid ≡ in_normal at wait top w
   unfolding in_normal
   normal_other_kind h = rw (← in-kind-is, h) refl
@@ -71,12 +70,12 @@ module _ (state : State) (wait top w : ℕ) where
   unfolding by_state
   in_normal_lem at r h r-is = rw h r-is
 
-  pub outside_plain : (state ≡ Alarm) ⊎ (state ≡ Lost) → (in_range : Bool) → in_range ≡ good ndf.Normal top w → in_range ≡ true → Plain ≡ by_state state wait top w
+  pub outside_plain : (state ≡ Alarm) ⊎ (state ≡ Lost) → (in_range : Bool) → in_range ≡ good normal top w → in_range ≡ true → Plain ≡ by_state state wait top w
   unfolding by_state in_alarm_or_lost
   outside_plain (inl h) in_range is e = rw (h, ← is, e) refl
   outside_plain (inr h) in_range is e = rw (h, ← is, e) refl
 
-  pub outside_invalid : (state ≡ Alarm) ⊎ (state ≡ Lost) → (in_range : Bool) → in_range ≡ good ndf.Normal top w → in_range ≡ false → Invalid ≡ by_state state wait top w
+  pub outside_invalid : (state ≡ Alarm) ⊎ (state ≡ Lost) → (in_range : Bool) → in_range ≡ good normal top w → in_range ≡ false → Invalid ≡ by_state state wait top w
   unfolding by_state in_alarm_or_lost
   outside_invalid (inl h) in_range is e = rw (h, ← is, e) refl
   outside_invalid (inr h) in_range is e = rw (h, ← is, e) refl
@@ -102,7 +101,7 @@ module _ (state : State) (alike wait top w : ℕ) where
   unfolding taken_as
   takes_alarm h = rw (eq-eqb w 0xffff h) refl
 
-  module _ (other : w ≡ 0xffff → ⊥) (v : ℕ) (v-is : v ≡ value_of w) (new : Bool) (New-is : new ≡ good ndf.Enabled top w) where
+  module _ (other : w ≡ 0xffff → ⊥) (v : ℕ) (v-is : v ≡ value_of w) (new : Bool) (New-is : new ≡ good enabled top w) where
     pub takes_new_data : new ≡ true → NewData v ≡ taken_as state alike wait top w
     unfolding taken_as
     takes_new_data h = rw (ne_eqb w 0xffff other, ← New-is, h, v-is) refl

@@ -2,8 +2,7 @@
 -- `top` is the largest pointer value: 782 in AU-4, 764 in TU-3.
 use Rattle.std.specs.Prelude.{ℕ, Bool, true, false, cond, not, ◌&&◌, eqb, ltb, leb}
 use Rattle.counts.specs.Counts.{run_on}
-use Rattle.word.specs.declared.Ndf.TheVariants as ndf
-use Rattle.word.specs.Word.{value_of, of_kind, good, bits_i, bits_d, inverted}
+use Rattle.word.specs.Word.{normal, enabled, value_of, of_kind, good, bits_i, bits_d, inverted}
 use Rattle.shape.specs.Shape.{offset_after}
 use Rattle.shape.specs.declared.Adjustment.{Adjustment}
 use Rattle.shape.specs.declared.Adjustment.TheVariants as offset
@@ -21,7 +20,7 @@ no_run = record { count = 0; value = 0 }
 -- "The run counts consecutive words with normal NDF, SS 10, value in range and the same value, however else each was taken"
 unfoldable pub run_after : Run → ℕ → ℕ → Run
 run_after run top w =
-    cond (good ndf.Normal top w)
+    cond (good normal top w)
     (record { count = run_on (eqb run.value (value_of w)) run.count 3; value = value_of w })
     no_run
 
@@ -43,7 +42,7 @@ adjustment top at i d =
 -- rule 6: "All else is invalid"
 unfoldable pub in_normal : ℕ → ℕ → ℕ → ℕ → Taken
 in_normal at wait top w =
-    cond (of_kind ndf.Normal w)
+    cond (of_kind normal w)
     (cond (eqb (value_of w) at) Plain
     (cond (ltb wait 3) Invalid
     (adjustment top at (inverted bits_i w at) (inverted bits_d w at))))
@@ -51,7 +50,7 @@ in_normal at wait top w =
 
 -- rule 5: "In alarm or lost, a word with normal NDF, SS 10, in range changes nothing and is not invalid", and so is plain; rule 6: "All else is invalid"
 unfoldable pub in_alarm_or_lost : ℕ → ℕ → Taken
-in_alarm_or_lost top w = cond (good ndf.Normal top w) Plain Invalid
+in_alarm_or_lost top w = cond (good normal top w) Plain Invalid
 
 -- rules 4 to 6, by the state
 unfoldable pub by_state : State → ℕ → ℕ → ℕ → Taken
@@ -64,7 +63,7 @@ by_state Lost wait top w = in_alarm_or_lost top w
 unfoldable pub taken_as : State → ℕ → ℕ → ℕ → ℕ → Taken
 taken_as state alike wait top w =
     cond (eqb w 0xffff) AlarmWord
-    (cond (good ndf.Enabled top w) (NewData (value_of w))
+    (cond (good enabled top w) (NewData (value_of w))
     (cond (leb 3 alike && elsewhere state (value_of w)) (Resync (value_of w))
     (by_state state wait top w)))
 

@@ -34,7 +34,7 @@ pub struct Run {
 pub fn run_after(run: Run, top: u16, w: u16) -> Run
     ensures { result ≡ run_after run top w }
 {
-    if word::is_good(Ndf::Normal, top, w) {
+    if word::is_good(Ndf::Normal as u8, top, w) {
         let value = word::value(w);
         let count = counts::run_on(run.value == value, run.count, 3);
         Run { count, value }
@@ -62,7 +62,7 @@ fn adjust(top: u16, offset: u16, i: u32, d: u32) -> Taken
 fn take_normal(offset: u16, wait: u8, top: u16, w: u16) -> Taken
     ensures { result ≡ in_normal offset wait top w }
 {
-    if !word::of_kind(Ndf::Normal, w) {
+    if !word::of_kind(Ndf::Normal as u8, w) {
         Taken::Invalid
     } else if word::value(w) == offset {
         Taken::Plain
@@ -82,7 +82,7 @@ fn take_by_state(state: State, wait: u8, top: u16, w: u16) -> Taken
     match state {
         State::Normal(offset) => take_normal(offset, wait, top, w),
         State::Alarm | State::Lost => {
-            if word::is_good(Ndf::Normal, top, w) {
+            if word::is_good(Ndf::Normal as u8, top, w) {
                 Taken::Plain
             } else {
                 Taken::Invalid
@@ -98,7 +98,7 @@ pub fn take(state: State, alike: u8, wait: u8, top: u16, w: u16) -> Taken
     let v = word::value(w);
     if w == 0xffff {
         Taken::AlarmWord
-    } else if word::is_good(Ndf::Enabled, top, w) {
+    } else if word::is_good(Ndf::Enabled as u8, top, w) {
         Taken::NewData(v)
     } else if 3 <= alike && state != State::Normal(v) {
         Taken::Resync(v)

@@ -12,8 +12,7 @@ use lib.Dec.{eqb, ltb, leb}
 use Rattle.laws.proofs.Bits.{xor_other}
 use Rattle.laws.proofs.Tests.{by_test}
 use Rattle.counts.specs.Counts.{more, run_on}
-use Rattle.word.specs.declared.Ndf.TheVariants as ndf
-use Rattle.word.specs.Word.{good, bits_i, bits_d, inverted, plain_word, inverted_word}
+use Rattle.word.specs.Word.{normal, good, bits_i, bits_d, inverted, plain_word, inverted_word}
 use Rattle.word.proofs.Laws.{value_plain, of_kind_plain, no_alarm_plain, no_new_plain, good_plain, inverted_is, ones_i, ones_d, ones_id, ones_di}
 use Rattle.shape.specs.Shape.{offset_after}
 use Rattle.shape.specs.declared.Adjustment.{Adjustment}
@@ -159,7 +158,7 @@ module _ (top : ℕ) (small : top < 1024) where
       run_inverted : (run : Run) → run.value ≡ v → (run_after run top (inverted_word m v)).count ≤ 1
       unfolding run_after run_on
       run_inverted run e =
-          by_test (λ (r : Run). r.count ≤ 1) (good ndf.Normal top (inverted_word m v))
+          by_test (λ (r : Run). r.count ≤ 1) (good normal top (inverted_word m v))
           (λ _. rw (value_plain (bit_xor v m) x_small, e, ne_eqb v (bit_xor v m) (λ q. xor_other v m some (sym q))) (omega arith))
           (λ _. omega arith)
 

@@ -1,14 +1,13 @@
 -- What `reading` and the tests of a word have to show: the sum fits in sixteen bits, and is the definition's. Assumes nothing.
-use mathlib.Core.Path.{◌≡◌, refl, sym}
-use mathlib.Core.Bool.{Bool}
+use mathlib.Core.Path.{◌≡◌, refl}
 use mathlib.Core.List.{List}
 use Prim.Native.Nat.{ℕ, ◌+◌, ◌*◌, ◌<◌, ◌^◌}
 use native.Mathlib.Omega.{arith}
 use borrow.Author.Tests.{eq-eqb, ne_eqb}
-use denote.Enum.Bare.{sameb}
 use denote.Enum.Declared.{tag_of}
+use lib.Dec.{eqb}
 use lib.ListN.{length, get_or}
-use Rattle.word.specs.Word.{word_of, number_of, kind_of, ss_of, value_of, reading_of, same_kind}
+use Rattle.word.specs.Word.{word_of, number_of, kind_of, ss_of, value_of, reading_of, of_kind}
 use Rattle.word.specs.declared.Ndf.{Ndf}
 use Rattle.word.specs.declared.Ndf.TheVariants.{Neither, Normal, Enabled}
 use Rattle.word.specs.contracts.Ndf.{the_type}
@@ -16,31 +15,27 @@ use Rattle.word.proofs.Laws.{number_le, ss_lt, value_lt}
 
 -- ---- the tests
 
--- two kinds are one where the code finds them equal
-pub same_is : (a b : Ndf) (equal : Bool) → equal ≡ sameb the_type a b → same_kind a b ≡ equal
-unfolding same_kind
-same_is Neither Neither equal e = sym e
-same_is Neither Normal equal e = sym e
-same_is Neither Enabled equal e = sym e
-same_is Normal Neither equal e = sym e
-same_is Normal Normal equal e = sym e
-same_is Normal Enabled equal e = sym e
-same_is Enabled Neither equal e = sym e
-same_is Enabled Normal equal e = sym e
-same_is Enabled Enabled equal e = sym e
+-- the number of a kind in the code
+pub number_is : (k : Ndf) → tag_of the_type k ≡ number_of k
+unfolding number_of
+number_is Neither = refl
+number_is Normal = refl
+number_is Enabled = refl
+
+module _ (k w : ℕ) (kind : Ndf) (kind-is : kind ≡ kind_of w) where
+  pub of_other_kind : (tag_of the_type kind ≡ k → ⊥) → eqb (tag_of the_type kind) k ≡ of_kind k w
+  unfolding of_kind
+  of_other_kind h = rw (← kind-is, ← number_is kind, ne_eqb (tag_of the_type kind) k h) refl
+
+  pub of_that_kind : (ss : ℕ) → ss ≡ ss_of w → tag_of the_type kind ≡ k → eqb ss 2 ≡ of_kind k w
+  unfolding of_kind
+  of_that_kind ss ss-is e = rw (← kind-is, ← number_is kind, eq-eqb (tag_of the_type kind) k e, ss-is) refl
 
 -- ---- the reading
 
 pub reads_none : (s : List ℕ) → (length s ≡ 2 → ⊥) → 0 ≡ reading_of s
 unfolding reading_of
 reads_none s h = rw (ne_eqb (length s) 2 h) refl
-
--- the number of a kind in the code
-number_is : (k : Ndf) → tag_of the_type k ≡ number_of k
-unfolding number_of
-number_is Neither = refl
-number_is Normal = refl
-number_is Enabled = refl
 
 module _ (w : ℕ) (kind : Ndf) (ss : ℕ) (kind-is : kind ≡ kind_of w) (ss-is : ss ≡ ss_of w) where
   pub ss_fits : 1024 * ss < 2 ^ 16

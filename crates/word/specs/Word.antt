@@ -1,5 +1,5 @@
 -- The pointer word of 01, "Layouts": H1 and H2 as one number of sixteen bits, H1 high.
-use Rattle.std.specs.Prelude.{ℕ, ◌+◌, ◌*◌, ◌/◌, ◌%◌, Bool, true, false, cond, ◌&&◌, List, [], ◌∷◌, eqb, leb, length, get_or}
+use Rattle.std.specs.Prelude.{ℕ, ◌+◌, ◌*◌, ◌/◌, ◌%◌, Bool, cond, ◌&&◌, List, [], ◌∷◌, eqb, leb, length, get_or}
 use Rattle.std.specs.Int.Bits.{bit_and, bit_xor}
 use Rattle.std.specs.Int.Count.{ones}
 use Rattle.word.specs.declared.Ndf.{Ndf}
@@ -18,10 +18,19 @@ h2_of w = w % 256
 -- ---- reading: "four NDF bits, two SS bits, ten bits I D I D I D I D I D"
 
 -- the kinds of NDF, by the numbers that the host's word reading gives them: "neither 0, normal 1, enabled 2"
+abbrev pub neither : ℕ
+neither = 0
+
+abbrev pub normal : ℕ
+normal = 1
+
+abbrev pub enabled : ℕ
+enabled = 2
+
 unfoldable pub number_of : Ndf → ℕ
-number_of Neither = 0
-number_of Normal = 1
-number_of Enabled = 2
+number_of Neither = neither
+number_of Normal = normal
+number_of Enabled = enabled
 
 -- "NDF normal: 0110, 1110, 0010, 0100, 0111. Enabled: 1001, 0001, 1101, 1011, 1000. The other six are neither."
 abbrev pub kinds : List Ndf
@@ -46,19 +55,12 @@ reading_of s =
     let w = word_of (get_or s 0 0) (get_or s 1 0) in
     cond (eqb (length s) 2) (4096 * number_of (kind_of w) + 1024 * ss_of w + value_of w) 0
 
--- whether two kinds are one
-unfoldable pub same_kind : Ndf → Ndf → Bool
-same_kind Neither Neither = true
-same_kind Normal Normal = true
-same_kind Enabled Enabled = true
-same_kind a b = false
-
 -- NDF of the kind k and SS 10
-unfoldable pub of_kind : Ndf → ℕ → Bool
-of_kind k w = same_kind (kind_of w) k && eqb (ss_of w) 2
+unfoldable pub of_kind : ℕ → ℕ → Bool
+of_kind k w = eqb (number_of (kind_of w)) k && eqb (ss_of w) 2
 
 -- NDF of the kind k, SS 10, the value in range: "value 0 to 782", and in TU-3 0 to 764
-unfoldable pub good : Ndf → ℕ → ℕ → Bool
+unfoldable pub good : ℕ → ℕ → ℕ → Bool
 good k top w = of_kind k w && leb (value_of w) top
 
 -- ---- the bits that differ from an offset's

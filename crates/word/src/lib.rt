@@ -92,15 +92,16 @@ pub fn reading(s: &[u8]) -> u16
     4096 * kind(w) as u16 + 1024 * ss(w) + value(w)
 }
 
-// Whether a word has NDF of the kind k and SS 10.
-pub fn of_kind(k: Ndf, w: u16) -> bool
+// Whether a word has NDF of the kind whose number is k, and SS 10.
+// Kept: a number and no Ndf, here and in the next, since both promise an answer for any number.
+pub fn of_kind(k: u8, w: u16) -> bool
     ensures { result ≡ of_kind k w }
 {
-    kind(w) == k && ss(w) == 2
+    kind(w) as u8 == k && ss(w) == 2
 }
 
-// Whether a word has NDF of the kind k, SS 10 and a value of at most `top`.
-pub fn is_good(k: Ndf, top: u16, w: u16) -> bool
+// Whether a word has NDF of the kind whose number is k, SS 10 and a value of at most `top`.
+pub fn is_good(k: u8, top: u16, w: u16) -> bool
     ensures { result ≡ good k top w }
 {
     of_kind(k, w) && value(w) <= top
