@@ -133,22 +133,20 @@ fn say_containers<'a, P: Print>(
     unit: &'a [u8],
     last: &mut [u8],
 ) {
-    let view = view::of(ended, shape::Shape::au4().size, done, unit);
+    let size = shape::Shape::au4().size;
     if ended.completed {
-        let container = Container {
-            bytes: view.first,
-            told: ended.first,
-        };
+        let bytes = view::container(ended, size, done, unit, 0);
+        let told = ended.first;
+        let container = Container { bytes, told };
         write!(out, " c=D@0,{container}");
-        keep(view.first, last);
+        keep(bytes, last);
     }
     if ended.inside {
-        let container = Container {
-            bytes: view.second,
-            told: ended.second,
-        };
+        let bytes = view::container(ended, size, done, unit, usize::from(ended.completed));
+        let told = ended.second;
+        let container = Container { bytes, told };
         write!(out, " c=U@{},{container}", ended.place);
-        keep(view.second, last);
+        keep(bytes, last);
     }
 }
 
