@@ -5,10 +5,11 @@ use mathlib.Core.Logic.{◌⊎◌, inl, inr, ⊎_elim}
 use Prim.Native.Nat.{ℕ, ◌+◌, ◌-◌, ◌*◌, ◌/◌, ◌<◌, ◌≤◌}
 use native.Mathlib.Nat.{eq-or-lt_of_le}
 use native.Mathlib.Omega.{arith}
+use Rattle.records.specs.Fits.{Serves}
+use Rattle.records.specs.Record.{Kind}
 use Rattle.refusals.specs.Refusals.{Fault}
 use Rattle.records.specs.Refusals.{catalogue_number}
 use Rattle.records.specs.Faults.{first_fault}
-use Rattle.records.specs.declared.Kind.{Kind}
 use Rattle.records.specs.declared.Refusal.{Refusal}
 use Rattle.records.specs.declared.Refusal.TheVariants.{Repeated}
 use Rattle.pairs.proofs.Visits.{pairs_among, among_next, among_le, among_0, among_512, Found, Absent}
@@ -97,12 +98,12 @@ compared_most kind s = go (faults_before kind s) refl
     go (f ∷ l) q = rw q (omega arith)
 
 -- so never more than the pairs of 512 records, whatever the file
-pub compared_512 : (kind : Kind) (s : List ℕ) → pairs_of kind s ≤ 130816
+pub compared_512 : (kind : Kind) (s : List ℕ) → Serves kind.length → pairs_of kind s ≤ 130816
 unfolding pairs_of compared_after
-compared_512 kind s = go (faults_before kind s) refl
+compared_512 kind s f = go (faults_before kind s) refl
   where
     go : (l : List (Fault Refusal)) → faults_before kind s ≡ l → compared_after (faults_before kind s) (visit_of kind s) ≤ 130816
-    go [] q = omega (arith, passed_most kind s q, among_le (records kind s) 512 (passed_records kind s q), among_512)
+    go [] q = omega (arith, passed_most kind s q, among_le (records kind s) 512 (passed_records kind s f q), among_512)
     go (f ∷ l) q = rw q (omega arith)
 
 -- two records with one trace are the last two

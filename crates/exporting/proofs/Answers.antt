@@ -13,11 +13,11 @@ use Rattle.text.specs.InnerWriting.{HasRoom, WroteWithin}
 use Rattle.text.proofs.Within.{begun, unbound}
 use Rattle.refusals.specs.Refusals.{Fault, said_by}
 use Rattle.refusals.proofs.Wrong.{Numbered}
-use Rattle.records.specs.Record.{old_kind, most_records}
+use Rattle.records.specs.Fits.{old_serves}
+use Rattle.records.specs.Record.{Kind, old_kind, most_records}
 use Rattle.records.specs.Refusals.{catalogue_says}
 use Rattle.records.specs.Faults.{first_fault}
 use Rattle.std.specs.Prelude.{Result, Ok, Err}
-use Rattle.records.specs.declared.Kind.{Kind}
 use Rattle.records.specs.declared.Refusal.{Refusal}
 use Rattle.catalogue.specs.Catalogue.{faults, records, catalogue_answer, check_of, Checks}
 use Rattle.catalogue.specs.declared.Counted.{Counted}
@@ -64,7 +64,7 @@ module _ (s b : List ℕ) (c : Counted) (is_c : Checks old_kind s c) where
 
   module _ (n : ℕ) (e : c.checked ≡ Ok n) (kind : Kind) (is-kind : kind ≡ old_kind) where
     whole : (length s ≡ old_kind.length * n) × (n ≤ most_records)
-    whole = good_length old_kind s n (sym checked_so ∙ e)
+    whole = good_length old_kind s n old_serves (sym checked_so ∙ e)
 
     pub good_records : length s ≡ kind.length * n
     good_records = rw is-kind whole.0

@@ -3,6 +3,7 @@
 
 ghost use Rattle.std.specs.Prelude.{◌≡◌, ◌*◌, ◌≤◌, length};
 ghost use Rattle.text.specs.Inner.{Written};
+ghost use Rattle.records.specs.Record.{plain};
 ghost use Rattle.record_line.specs.RecordLine.{lines_from};
 ghost use Rattle.exporting.specs.Export.{sheet_form, Exports};
 
@@ -25,7 +26,7 @@ fn form() -> Form
 // The lines of a good catalogue's records, from the start of a buffer on; the answer is how many bytes they are.
 fn text_of(out: &mut [u8], file: File) -> usize
     requires { 46 * file.count ≤ length out.old }
-    ensures { Written 0 (lines_from sheet_form file.entry.kind file.entry.bytes.now 0 file.entry.count) out.old out.new result }
+    ensures { Written 0 (lines_from sheet_form (plain file.entry.kind) file.entry.bytes.now 0 file.entry.count) out.old out.new result }
 {
     let mut w = Writer { out, at: 0 };
     record_line::lines(form(), &mut w, file);

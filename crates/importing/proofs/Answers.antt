@@ -14,6 +14,7 @@ use Rattle.text.specs.Inner.{Written}
 use Rattle.refusals.specs.Refusals.{Fault, due, no_at, given_at, rows_at, said_by}
 use Rattle.refusals.proofs.Wrong.{due_false, Numbered, numbered_row, numbered_rows, numbered_both}
 use Rattle.refusals.proofs.Joined.{joined_none, rows_none}
+use Rattle.records.specs.Fits.{old_serves}
 use Rattle.records.specs.Record.{old_kind}
 use Rattle.records.specs.Refusals.{catalogue_says}
 use Rattle.records.specs.Faults.{first_fault}
@@ -167,7 +168,7 @@ module _ (s b a : List ℕ) (r : Result ℕ Refusal) (n : ℕ) (d : Imports s b 
   good_is = sym d.answer_is ∙ e
 
   long : (length (result_of s) ≡ old_kind.length * n) × (n ≤ 512)
-  long = good_length old_kind (result_of s) n (good_fine s n good_is).catalogue_good
+  long = good_length old_kind (result_of s) n old_serves (good_fine s n good_is).catalogue_good
 
   pub good_fits : 21 * n ≤ 10752
   good_fits = omega (arith, long.1)

@@ -11,8 +11,8 @@ use Rattle.text.specs.InnerWriting.{HasRoom, Wrote, WroteWithin}
 use Rattle.text.proofs.Pieces.{wrote_then}
 use Rattle.text.proofs.Within.{begun, unbound}
 use Rattle.catalogue.specs.Catalogue.{Checks}
-use Rattle.records.specs.Record.{old_kind, most_records}
-use Rattle.records.specs.declared.Kind.{Kind}
+use Rattle.records.specs.Fits.{old_serves}
+use Rattle.records.specs.Record.{Kind, old_kind, most_records}
 use Rattle.records.specs.declared.Refusal.{Refusal}
 use Rattle.std.specs.Prelude.{Ok, Err}
 use Rattle.catalogue.specs.declared.Counted.{Counted}
@@ -56,7 +56,7 @@ listed kind s t b a e t-is k l w =
 module _ (s : List ℕ) (c : Counted) (is_c : Checks old_kind s c) where
   module _ (n : ℕ) (e : c.checked ≡ Ok n) where
     whole : (length s ≡ old_kind.length * n) × (n ≤ most_records)
-    whole = good_length old_kind s n (sym (checked_is old_kind s c is_c) ∙ e)
+    whole = good_length old_kind s n old_serves (sym (checked_is old_kind s c is_c) ∙ e)
 
     pub good_room : (b : List ℕ) → length b ≡ 15898 → 26 + 31 * n ≤ length b
     good_room b l = omega (arith, whole.1)

@@ -2,11 +2,11 @@
 -- trace as it stands, flags decimal"; "a refused file prints one line: its number, then the place (13: later, then first; 9: none)".
 use Rattle.std.specs.Prelude.{ℕ, ◌≤◌, ◌≡◌, false, List, [], ◌∷◌, ◌++◌, length, Result, Ok, Err}
 use Rattle.copier.specs.Put.{put}
+use Rattle.records.specs.Record.{Kind}
 use Rattle.records.specs.Refusals.{catalogue_number, catalogue_places}
 use Rattle.catalogue.specs.Catalogue.{check_of}
 use Rattle.record_line.specs.RecordLine.{lines_from}
 use Rattle.refusal_line.specs.RefusalLine.{refusal_line}
-use Rattle.records.specs.declared.Kind.{Kind}
 use Rattle.record_line.specs.declared.Form.{Form}
 use Rattle.records.specs.declared.Refusal.{Refusal}
 

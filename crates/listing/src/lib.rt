@@ -4,7 +4,7 @@
 
 ghost use Rattle.std.specs.Prelude.{◌≡◌, ◌++◌, ◌+◌, ◌*◌, ◌≤◌, length};
 ghost use Rattle.text.specs.Inner.{Written};
-ghost use Rattle.records.specs.Record.{old_kind};
+ghost use Rattle.records.specs.Record.{old_kind, plain};
 ghost use Rattle.record_line.specs.RecordLine.{lines_from};
 ghost use Rattle.listing.specs.Listing.{heading, listing_form, Listed};
 
@@ -27,7 +27,7 @@ fn form() -> Form
 // A good catalogue: the heading and the lines.
 fn good(out: &mut [u8], file: File) -> usize
     requires { 26 + 31 * file.count ≤ length out.old }
-    ensures { Written 0 (heading ++ lines_from listing_form file.entry.kind file.entry.bytes.now 0 file.entry.count) out.old out.new result }
+    ensures { Written 0 (heading ++ lines_from listing_form (plain file.entry.kind) file.entry.bytes.now 0 file.entry.count) out.old out.new result }
 {
     let mut w = Writer { out, at: 0 };
     w.bytes(b"circuit label trace flags\n");

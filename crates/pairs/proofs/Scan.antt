@@ -6,9 +6,8 @@ use Prim.Native.Nat.{ℕ, ◌+◌, ◌-◌, ◌<◌, ◌≤◌}
 use native.Mathlib.Omega.{arith}
 use Rattle.laws.proofs.Loops.{one_less, none_left, all_left}
 use Rattle.trace_message.specs.Message.{alike}
-use Rattle.records.specs.Record.{record_at, trace_in}
+use Rattle.records.specs.Record.{Kind, record_at, trace_in}
 use Rattle.records.specs.Faults.{first_fault}
-use Rattle.records.specs.declared.Kind.{Kind}
 use Rattle.records.specs.declared.Refusal.TheVariants.{Repeated}
 use Rattle.std.specs.Prelude.{Ok, Err}
 use Rattle.pairs.specs.Pairs.{Pair, pairs_with, pairs_from, one_trace, repeated, Visit, one_more, visit}

@@ -7,7 +7,7 @@ use mathlib.Core.Logic.{◌⊎◌, inl, inr, ⊎_elim}
 use Prim.Native.Nat.{ℕ, zero, suc, ◌+◌, ◌-◌, ◌*◌, ◌/◌, ◌<◌, ◌≤◌}
 use native.Mathlib.Nat.{eq-or-lt_of_le}
 use native.Mathlib.Omega.{arith}
-use Rattle.records.specs.declared.Kind.{Kind}
+use Rattle.records.specs.Record.{Kind}
 use Rattle.pairs.specs.Pairs.{Pair, pairs_with, pairs_from, one_trace, repeated, one_more, visit}
 
 -- ---- how many pairs n records have

@@ -3,8 +3,7 @@
 use Rattle.std.specs.Prelude.{ℕ, zero, suc, ◌+◌, Bool, cond, List, [], ◌∷◌, ◌++◌}
 use Rattle.trace_message.specs.Message.{alike}
 use Rattle.refusals.specs.Refusals.{Fault, no_at}
-use Rattle.records.specs.Record.{record_at, trace_in}
-use Rattle.records.specs.declared.Kind.{Kind}
+use Rattle.records.specs.Record.{Kind, record_at, trace_in}
 use Rattle.records.specs.declared.Refusal.{Refusal}
 use Rattle.records.specs.declared.Refusal.TheVariants.{Repeated}
 

@@ -3,7 +3,7 @@
 #![tactic(auto)]
 
 ghost use Rattle.std.specs.Prelude.{◌≡◌, ◌≤◌, ◌<◌};
-ghost use Rattle.records.specs.Record.{most_records};
+ghost use Rattle.records.specs.Record.{most_records, plain};
 ghost use Rattle.pairs.specs.Pairs.{pairs_from, one_trace, visit};
 ghost use Rattle.pairs.specs.Inner.{visited_of};
 
@@ -19,7 +19,7 @@ pub struct Visited {
 // Whether two records of a file have one trace.
 fn one_trace(file: File, i: usize, j: usize) -> bool
     requires { (i < file.count) × (j < file.count) }
-    ensures { result ≡ one_trace file.entry.kind file.entry.bytes.now i j }
+    ensures { result ≡ one_trace (plain file.entry.kind) file.entry.bytes.now i j }
 {
     trace_message::same(file.record(i).trace(), file.record(j).trace())
 }
@@ -28,7 +28,7 @@ fn one_trace(file: File, i: usize, j: usize) -> bool
 // is left from inside at the first equal pair. Each pair that is compared is counted, the equal one too.
 pub fn first_repeat(file: File) -> Visited
     requires { file.count ≤ most_records }
-    ensures { result ≡ visited_of (visit file.entry.kind file.entry.bytes.now (pairs_from 0 file.entry.count)) }
+    ensures { result ≡ visited_of (visit (plain file.entry.kind) file.entry.bytes.now (pairs_from 0 file.entry.count)) }
 {
     let mut pairs = 0;
     for j in 0..file.count {

@@ -9,10 +9,9 @@ use lib.ListN.{length, get_or}
 use Rattle.std.specs.Prelude.{Result}
 use Rattle.records.specs.declared.Places.{Places}
 use Rattle.records.specs.Refusals.{places_given, places_in}
-use Rattle.records.specs.Record.{old_kind}
+use Rattle.records.specs.Record.{Kind, old_kind}
 use Rattle.catalogue.specs.Catalogue.{check_of, counted_of, Checks, lookup_of, LooksUp}
 use Rattle.probe.specs.Probe.{packed_at, packed_checked, packed_check, packed_found, characters_found, packed_imported, packed_exported}
-use Rattle.records.specs.declared.Kind.{Kind}
 use Rattle.records.specs.declared.Refusal.{Refusal}
 use Rattle.catalogue.specs.declared.Counted.{Counted}
 use Rattle.catalogue.specs.declared.Entry.{Entry}

@@ -9,8 +9,7 @@ use Rattle.text.specs.declared.Writer.{Writer}
 use Rattle.text.specs.InnerWriting.{HasRoom, WroteWithin}
 use Rattle.text.proofs.Pieces.{wrote_none}
 use Rattle.text.proofs.Within.{within, within_then}
-use Rattle.records.specs.Record.{record_at}
-use Rattle.records.specs.declared.Kind.{Kind}
+use Rattle.records.specs.Record.{Kind, record_at}
 use Rattle.record_line.specs.RecordLine.{line_of, lines_from}
 use Rattle.record_line.specs.Inner.{line_most}
 use Rattle.record_line.specs.declared.Form.{Form}

@@ -3,8 +3,7 @@
 use Rattle.std.specs.Prelude.{ℕ, zero, suc, ◌+◌, cond, List, [], ◌∷◌, ◌++◌}
 use Rattle.text.specs.Text.{decimal_of, hex_of}
 use Rattle.quotes.specs.Quotes.{doubled}
-use Rattle.records.specs.Record.{record_at, circuit_in, label_in, trace_in, flags_in}
-use Rattle.records.specs.declared.Kind.{Kind}
+use Rattle.records.specs.Record.{Kind, record_at, circuit_in, label_in, trace_in, flags_in}
 use Rattle.record_line.specs.declared.Form.{Form}
 
 -- number and label: `7 12`, `7,12`

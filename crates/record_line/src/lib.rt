@@ -5,7 +5,7 @@
 ghost use Rattle.std.specs.Prelude.{◌≡◌, [], ◌∷◌, ◌++◌, ◌+◌, ◌*◌, length};
 ghost use Rattle.text.specs.Inner.{Short};
 ghost use Rattle.text.specs.InnerWriting.{HasRoom, WroteWithin};
-ghost use Rattle.records.specs.Record.{circuit_in, flags_in};
+ghost use Rattle.records.specs.Record.{circuit_in, flags_in, plain};
 ghost use Rattle.record_line.specs.RecordLine.{number_and_label, characters_of, trace_and_flags, line_of, lines_from};
 ghost use Rattle.record_line.specs.Inner.{characters_most, line_most};
 
@@ -83,7 +83,7 @@ fn line(form: Form, w: &mut Writer, r: Record)
 // The lines of a file's records.
 pub fn lines(form: Form, w: &mut Writer, file: File)
     requires { HasRoom (line_most form * file.count) w.old }
-    ensures { WroteWithin (line_most form * file.entry.count) (lines_from form file.entry.kind file.entry.bytes.now 0 file.entry.count) w.old w.new }
+    ensures { WroteWithin (line_most form * file.entry.count) (lines_from form (plain file.entry.kind) file.entry.bytes.now 0 file.entry.count) w.old w.new }
 {
     for k in 0..file.count {
         line(form, w, file.record(k));

@@ -2,11 +2,11 @@
 use mathlib.Core.List.{[], ◌∷◌}
 use native.Mathlib.Omega.{arith}
 use Rattle.records.specs.Fits.{Serves}
-use Rattle.records.specs.declared.Kind.{Kind}
-
-pub longer_serves : Serves 24
-longer_serves = record { holds = omega arith; short = omega arith }
+use Rattle.records.specs.Record.{Kind}
 
 -- 24 bytes, 5A 4E: the fields, and three bytes more
 abbrev pub longer : Kind
-longer = record { length = 24; mark = 0x5a ∷ 0x4e ∷ []; serves = longer_serves }
+longer = record { length = 24; mark = 0x5a ∷ 0x4e ∷ [] }
+
+pub longer_serves : Serves longer.length
+longer_serves = record { holds = omega arith; short = omega arith }

@@ -1,4 +1,4 @@
--- What every kind of record meets: its records hold the fields, and a file of them is not too long. Every `records::Kind` has this proof with it.
+-- What every `records::Kind` meets: its records hold the fields, and a file of them is not too long. It has this proof with it; a kind of specs/Record.antt need not meet it.
 use Rattle.std.specs.Prelude.{ℕ, ◌*◌, ◌≤◌, ◌<◌}
 use Rattle.std.proofs.Common.{lit≤, lit<}
 

@@ -11,6 +11,7 @@ use Rattle.text.specs.Text.{decimal_of}
 use Rattle.digits.specs.Digits.{is_digit, digits_only}
 use Rattle.digits.proofs.Laws.{digit_range}
 use Rattle.refusals.proofs.Joined.{joined_none}
+use Rattle.records.specs.Fits.{old_serves}
 use Rattle.records.specs.Record.{old_kind, record_at}
 use Rattle.records.specs.Faults.{record_faults}
 use Rattle.std.specs.Prelude.{Ok}
@@ -38,7 +39,7 @@ unfolding refusal_line
 never_good number places n e =
     let s = decimal_of number ++ (blank_before places ++ (0x0a ∷ [])) in
     let some = decimal_some number in
-    let l = good_length old_kind s n e in
+    let l = good_length old_kind s n old_serves e in
     let d = first_digit (decimal_of number) (blank_before places ++ (0x0a ∷ [])) some (digits_decimal number) in
     let b = begins s n (omega (arith, some, length-append (decimal_of number) (blank_before places ++ (0x0a ∷ [])))) l.0 (good_faults s n e) in
     omega (arith, d, b)

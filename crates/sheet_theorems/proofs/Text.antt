@@ -14,6 +14,7 @@ use Rattle.refusals.proofs.Joined.{joined_none}
 use Rattle.settings.specs.Settings.{trace_faults}
 use Rattle.settings.proofs.Passes.{by_characters}
 use Rattle.text.specs.Text.{decimal_of, hex_of}
+use Rattle.records.specs.Fits.{old_serves}
 use Rattle.records.specs.Record.{old_kind, record_at, circuit_in, label_in, trace_in, flags_in}
 use Rattle.records.specs.Faults.{record_faults}
 use Rattle.std.specs.Prelude.{Ok}
@@ -109,7 +110,7 @@ pub record Back (s : List ℕ) (n : ℕ) : Type 0 where
 pub round_trip : (s : List ℕ) (n : ℕ) → Bytes s → check_of old_kind s ≡ Ok n → Back s n
 unfolding export_of text_of result_of
 round_trip s n b e =
-    let l = good_length old_kind s n e in
+    let l = good_length old_kind s n old_serves e in
     let text = lines_from sheet_form old_kind s 0 n in
     let i = same s 0 n 0 b (omega (arith, l.0)) (good_faults s n e) in
     let r : records_of (lines_of text) ≡ s = i.says ∙ take_all (21 * n) s (omega (arith, l.0)) in
