@@ -12,7 +12,7 @@ use Rattle.refusals.specs.declared.Refusal.{Refusal}
 use Rattle.refusals.specs.declared.Refusal.TheVariants.{Container, Payload}
 use Rattle.std.specs.Prelude.{Result, Ok, Err, ⊤}
 use Rattle.refusals.proofs.Wrong.{due_none, due_false, none_wrong, outcome_done, outcome_refused, Numbered, numbered_row, numbered_last, outcome_said}
-use Rattle.shape.specs.declared.Shape.{Shape}
+use Rattle.shape.specs.Shape.{Shape, Fit}
 use Rattle.container.specs.Container.{payload_size, payload_in}
 use Rattle.container.specs.Payload.{payload_faults, payload_handed, Handed, payload_call, HandsAs, Hands}
 
@@ -64,8 +64,8 @@ module _ (s : Shape) (container : List ℕ) (ais : Bool) (before : List ℕ) (a 
     pub strip_payload : length before ≡ 9 * (s.columns - 1)
     strip_payload = fine.payload_is
 
-    pub strip_container : length container ≡ length before + 9
-    strip_container = omega (arith, s.fits.nine, s.fits.some, s.fits.two, fine.container_is, fine.payload_is)
+    pub strip_container : Fit s → length container ≡ length before + 9
+    strip_container f = omega (arith, f.nine, f.some, f.two, fine.container_is, fine.payload_is)
 
   module _ (done : a ≡ Ok tt) (after : List ℕ) where
     granted : after ≡ payload_handed s container ais → HandsAs s container ais before (Ok tt) after

@@ -3,7 +3,7 @@ use Rattle.std.specs.Prelude.{◌≡◌, ℕ, Bool, cond, not, List, [], ◌∷�
 use Rattle.refusals.specs.Refusals.{Fault, answer_says, given, said_by, outcome}
 use Rattle.refusals.specs.declared.Refusal.{Refusal}
 use Rattle.refusals.specs.declared.Refusal.TheVariants.{Container, Payload}
-use Rattle.shape.specs.declared.Shape.{Shape}
+use Rattle.shape.specs.Shape.{Shape}
 use Rattle.container.specs.Container.{payload_size, payload_in}
 
 -- what is refused, by the lengths of what is lent: "Payload call: 3, 2"

@@ -4,6 +4,7 @@
 
 ghost use Rattle.std.specs.Prelude.{◌≡◌, ◌+◌, ◌*◌, length};
 ghost use Rattle.shape.specs.Shape.{au4};
+ghost use Rattle.shape.specs.Numbers.{numbers};
 ghost use Rattle.refusals.specs.Refusals.{answer_of};
 ghost use Rattle.container.specs.Container.{rows_of, strip_of};
 ghost use Rattle.container.specs.Payload.{payload_faults, HandsAs, Hands};
@@ -42,7 +43,7 @@ fn strip(width: usize, container: &[u8], payload: &mut [u8])
 
 // The answer to a payload call, by the lengths of what it is lent.
 fn payload_answer(shape: Shape, container: usize, payload: usize) -> Result<(), Refusal>
-    ensures { result ≡ answer_of (payload_faults shape container payload) }
+    ensures { result ≡ answer_of (payload_faults (numbers shape) container payload) }
 {
     let full = shape.payload_length();
     if container != shape.size {
@@ -56,7 +57,7 @@ fn payload_answer(shape: Shape, container: usize, payload: usize) -> Result<(), 
 
 // The payload of a container of any shape, all ones in its place where `ais` asks for it.
 fn hand(shape: Shape, container: &[u8], ais: bool, payload: &mut [u8]) -> Result<(), Refusal>
-    ensures { HandsAs shape container.now ais payload.old result payload.new }
+    ensures { HandsAs (numbers shape) container.now ais payload.old result payload.new }
 {
     payload_answer(shape, container.len(), payload.len())?;
     if ais {

@@ -16,7 +16,7 @@ use Rattle.refusals.specs.declared.Refusal.TheVariants as wrong
 use Rattle.std.specs.Prelude.{Result, Ok, Err, ⊤}
 use Rattle.refusals.proofs.Wrong.{due_none, due_false, none_wrong, outcome_done, outcome_refused, Numbered, numbered_row, numbered_both, numbered_last, outcome_said}
 use Rattle.refusals.proofs.Joined.{joined_refused, joined_done, joined_none}
-use Rattle.shape.specs.declared.Shape.{Shape}
+use Rattle.shape.specs.Shape.{Shape, Fit}
 use Rattle.container.specs.Container.{payload_size, rows_of}
 use Rattle.container_source.specs.Overhead.{overhead_of}
 use Rattle.container_source.specs.Source.{send_faults, container_sent, container_source_after, Sent, SentOutcome, container_source, SendsAs, Sends}
@@ -124,8 +124,8 @@ module _ (s : Shape) (state : State) (g : Given) (trace payload before : List �
     pub sent_payload : length payload ≡ 9 * (s.columns - 1)
     sent_payload = fine.payload_is
 
-    pub sent_container : length before ≡ length payload + 9
-    sent_container = omega (arith, s.fits.nine, s.fits.some, s.fits.two, fine.payload_is, fine.container_is)
+    pub sent_container : Fit s → length before ≡ length payload + 9
+    sent_container f = omega (arith, f.nine, f.some, f.two, fine.payload_is, fine.container_is)
 
     pub next_fits : state.place + 1 < 2 ^ 8
     next_fits = omega (arith, fine.place_is)

@@ -5,7 +5,7 @@ use Rattle.settings.specs.Faults.{path_faults}
 use Rattle.refusals.specs.Refusals.{Fault, answer_says, given, said_by, outcome}
 use Rattle.refusals.specs.declared.Refusal.{Refusal}
 use Rattle.refusals.specs.declared.Refusal.TheVariants as wrong
-use Rattle.shape.specs.declared.Shape.{Shape}
+use Rattle.shape.specs.Shape.{Shape}
 use Rattle.container.specs.Container.{payload_size, container_of}
 use Rattle.container_source.specs.Overhead.{overhead_of}
 use Rattle.container_source.specs.declared.State.{State}

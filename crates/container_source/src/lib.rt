@@ -4,6 +4,7 @@
 
 ghost use Rattle.std.specs.Prelude.{◌≡◌, ◌≤◌};
 ghost use Rattle.shape.specs.Shape.{au4};
+ghost use Rattle.shape.specs.Numbers.{numbers};
 ghost use Rattle.refusals.specs.Refusals.{answer_of};
 ghost use Rattle.container_source.specs.Overhead.{j1_of, g1_of, overhead_of};
 ghost use Rattle.container_source.specs.Source.{fresh_container_source, send_faults, SendsAs, Sends};
@@ -90,7 +91,7 @@ fn answer(
     container: usize,
     violations: u8,
 ) -> Result<(), Refusal>
-    ensures { result ≡ answer_of (send_faults shape place label characters payload container violations) }
+    ensures { result ≡ answer_of (send_faults (numbers shape) place label characters payload container violations) }
 {
     let full = shape.payload_length();
     if 15 < place {
@@ -118,7 +119,7 @@ fn send(
     payload: &[u8],
     container: &mut [u8],
 ) -> Result<(), Refusal>
-    ensures { SendsAs shape s.old g characters.now payload.now container.old (record { answer = result; state = s.new }) container.new }
+    ensures { SendsAs (numbers shape) s.old g characters.now payload.now container.old (record { answer = result; state = s.new }) container.new }
 {
     let t = *characters;
     let before = *s;

@@ -14,7 +14,7 @@ use Rattle.refusals.proofs.Wrong.{none_done, outcome_answer, outcome_done, outco
 use Rattle.refusals.proofs.Joined.{joined_refused}
 use Rattle.settings.specs.Faults.{path_faults, settings_answer}
 use Rattle.settings.proofs.Refuses.{check_path}
-use Rattle.shape.specs.declared.Shape.{Shape}
+use Rattle.shape.specs.Shape.{Shape, Fit}
 use Rattle.container.specs.Payload.{payload_faults, payload_handed, Handed, payload_call}
 use Rattle.container.proofs.PayloadLaws as payload-laws
 use Rattle.container.proofs.PayloadLaws.{Handable, handable}
@@ -25,8 +25,8 @@ use Rattle.container_source.proofs.SourceLaws as source-laws
 use Rattle.container_source.proofs.SourceLaws.{Sendable, sendable}
 
 -- a shape that fits has a column
-pub some_columns : (s : Shape) → 0 < s.columns
-some_columns s = omega (arith, s.fits.nine, s.fits.some, s.fits.two)
+pub some_columns : (s : Shape) → Fit s → 0 < s.columns
+some_columns s f = omega (arith, f.nine, f.some, f.two)
 
 -- ---- the container source
 

@@ -9,7 +9,7 @@ use lib.Seq.{drop-cons, take_all}
 use Rattle.parity.specs.Parity.{parity_of}
 use Rattle.trace_message.specs.Message.{message}
 use Rattle.std.specs.Prelude.{Ok}
-use Rattle.shape.specs.declared.Shape.{Shape}
+use Rattle.shape.specs.Shape.{Shape, Fit}
 use Rattle.container.specs.Container.{overhead_in}
 use Rattle.container.proofs.Places.{get_or_container, overhead_container}
 use Rattle.container_source.specs.Overhead.{j1_of, g1_of, overhead_of}
@@ -37,44 +37,45 @@ module _ (s : Shape) (state : State) (c : ContainerSourceCall) (done : (containe
   in_range : state.place ≤ 15
   in_range = (source_sendable s state c.given c.trace c.payload c.lent done).place_is
 
-  -- the nine bytes of column 1
-  pub overhead_sent : overhead_in s.columns (container_source_called s state c).container ≡ overhead_of state c.given c.trace
-  unfolding container_sent overhead_of
-  overhead_sent =
-      ap (λ (o : SentOutcome). overhead_in s.columns o.container) (source_done s state c.given c.trace c.payload c.lent done)
-      ∙ overhead_container s.columns (overhead_of state c.given c.trace) c.payload (some_columns s) refl (source_sendable s state c.given c.trace c.payload c.lent done).payload_is
+  module _ (f : Fit s) where
+    -- the nine bytes of column 1
+    pub overhead_sent : overhead_in s.columns (container_source_called s state c).container ≡ overhead_of state c.given c.trace
+    unfolding container_sent overhead_of
+    overhead_sent =
+        ap (λ (o : SentOutcome). overhead_in s.columns o.container) (source_done s state c.given c.trace c.payload c.lent done)
+        ∙ overhead_container s.columns (overhead_of state c.given c.trace) c.payload (some_columns s f) refl (source_sendable s state c.given c.trace c.payload c.lent done).payload_is
 
-  -- the byte of row r
-  pub overhead_at : (r : ℕ) → r < 9 → get_or (container_source_called s state c).container (r * s.columns) 0 ≡ get_or (overhead_of state c.given c.trace) r 0
-  unfolding container_sent overhead_of
-  overhead_at r h =
-      ap (λ (o : SentOutcome). get_or o.container (r * s.columns) 0) (source_done s state c.given c.trace c.payload c.lent done)
-      ∙ get_or_container s.columns (overhead_of state c.given c.trace) c.payload (some_columns s) refl (source_sendable s state c.given c.trace c.payload c.lent done).payload_is r h
+    -- the byte of row r
+    pub overhead_at : (r : ℕ) → r < 9 → get_or (container_source_called s state c).container (r * s.columns) 0 ≡ get_or (overhead_of state c.given c.trace) r 0
+    unfolding container_sent overhead_of
+    overhead_at r h =
+        ap (λ (o : SentOutcome). get_or o.container (r * s.columns) 0) (source_done s state c.given c.trace c.payload c.lent done)
+        ∙ get_or_container s.columns (overhead_of state c.given c.trace) c.payload (some_columns s f) refl (source_sendable s state c.given c.trace c.payload c.lent done).payload_is r h
 
-  j1_sent : get_or (container_source_called s state c).container 0 0 ≡ get_or (message c.trace) state.place 0
-  unfolding overhead_of j1_of
-  j1_sent = rw zero-mul at (overhead_at 0 (omega arith))
+    j1_sent : get_or (container_source_called s state c).container 0 0 ≡ get_or (message c.trace) state.place 0
+    unfolding overhead_of j1_of
+    j1_sent = rw zero-mul at (overhead_at 0 (omega arith))
 
-  b3_sent : b3 s (container_source_called s state c).container ≡ state.parity
-  unfolding overhead_of
-  b3_sent = rw one-mul at (overhead_at 1 (omega arith))
+    b3_sent : b3 s (container_source_called s state c).container ≡ state.parity
+    unfolding overhead_of
+    b3_sent = rw one-mul at (overhead_at 1 (omega arith))
 
-  pub carries : Carries s c.given (container_source_called s state c).container
-  unfolding overhead_of g1_of
-  carries =
-      record {
-        c2_is = overhead_at 2 (omega arith);
-        g1_is = overhead_at 3 (omega arith);
-        f2_is = overhead_at 4 (omega arith);
-        h4_is = overhead_at 5 (omega arith);
-        f3_is = overhead_at 6 (omega arith);
-        k3_is = overhead_at 7 (omega arith);
-        n1_is = overhead_at 8 (omega arith);
-      }
+    pub carries : Carries s c.given (container_source_called s state c).container
+    unfolding overhead_of g1_of
+    carries =
+        record {
+          c2_is = overhead_at 2 (omega arith);
+          g1_is = overhead_at 3 (omega arith);
+          f2_is = overhead_at 4 (omega arith);
+          h4_is = overhead_at 5 (omega arith);
+          f3_is = overhead_at 6 (omega arith);
+          k3_is = overhead_at 7 (omega arith);
+          n1_is = overhead_at 8 (omega arith);
+        }
 
 -- ---- from call to call
 
-module _ (s : Shape) (first : State) (calls : ℕ → ContainerSourceCall) (n : ℕ) (ok : Unrefused s first calls n) where
+module _ (s : Shape) (first : State) (calls : ℕ → ContainerSourceCall) (n : ℕ) (f : Fit s) (ok : Unrefused s first calls n) where
   -- the place in the message goes on by one, modulo 16
   pub place_at : (k : ℕ) → k < n → (state_at s first calls k).place ≡ (first.place + k) % 16
   unfolding state_at
@@ -85,24 +86,24 @@ module _ (s : Shape) (first : State) (calls : ℕ → ContainerSourceCall) (n : 
   -- "J1 carries 16 bytes in turn": container k has the byte at the first place and k, modulo 16
   pub j1_in_turn : (trace : List ℕ) (k : ℕ) → k < n → (calls k).trace ≡ trace → get_or (container_at s first calls k) 0 0 ≡ get_or (message trace) ((first.place + k) % 16) 0
   j1_in_turn trace k l e =
-      j1_sent s (state_at s first calls k) (calls k) (ok k l)
+      j1_sent s (state_at s first calls k) (calls k) (ok k l) f
       ∙ ap₂ (λ (t : List ℕ) (p : ℕ). get_or (message t) p 0) e (place_at k l)
 
   -- "B3 is the exclusive or of all 2349 bytes of the container before"
   pub b3_before : (k : ℕ) → suc k < n → b3 s (container_at s first calls (suc k)) ≡ parity_of (container_at s first calls k)
   unfolding state_at
   b3_before k l =
-      b3_sent s (state_at s first calls (suc k)) (calls (suc k)) (ok (suc k) l)
+      b3_sent s (state_at s first calls (suc k)) (calls (suc k)) (ok (suc k) l) f
       ∙ next_parity s (state_at s first calls k) (calls k) (ok k (omega arith))
 
   -- in the first container of a run it is what the state kept
   pub b3_first : 0 < n → b3 s (container_at s first calls 0) ≡ first.parity
   unfolding state_at
-  b3_first l = b3_sent s first (calls 0) (ok 0 l)
+  b3_first l = b3_sent s first (calls 0) (ok 0 l) f
 
   -- the other bytes of column 1 are those given
   pub carries_at : (k : ℕ) → k < n → Carries s (calls k).given (container_at s first calls k)
-  carries_at k l = carries s (state_at s first calls k) (calls k) (ok k l)
+  carries_at k l = carries s (state_at s first calls k) (calls k) (ok k l) f
 
   -- with one trace
   module _ (trace : List ℕ) (fifteen : length trace ≡ 15) (one : (k : ℕ) → k < n → (calls k).trace ≡ trace) where
@@ -126,13 +127,13 @@ module _ (s : Shape) (first : State) (calls : ℕ → ContainerSourceCall) (n : 
 -- ---- a fresh source
 
 -- B3 is "00 in a source's first"
-pub b3_fresh : (s : Shape) (calls : ℕ → ContainerSourceCall) (n : ℕ) → Unrefused s fresh_container_source calls n → 0 < n → b3 s (container_at s fresh_container_source calls 0) ≡ 0
-b3_fresh s calls n ok l = b3_first s fresh_container_source calls n ok l
+pub b3_fresh : (s : Shape) (calls : ℕ → ContainerSourceCall) (n : ℕ) → Fit s → Unrefused s fresh_container_source calls n → 0 < n → b3 s (container_at s fresh_container_source calls 0) ≡ 0
+b3_fresh s calls n f ok l = b3_first s fresh_container_source calls n f ok l
 
 -- "a fresh container source begins at the start byte": its first 16 containers carry the message, and so do each 16 after them
-pub j1_fresh : (s : Shape) (calls : ℕ → ContainerSourceCall) (n : ℕ) → Unrefused s fresh_container_source calls n → (trace : List ℕ) → length trace ≡ 15 → ((k : ℕ) → k < n → (calls k).trace ≡ trace) → (i : ℕ) → i * 16 + 16 ≤ n → j1s s fresh_container_source calls (i * 16) 16 ≡ message trace
-j1_fresh s calls n ok trace fifteen one i l =
-    j1_over_and_over s fresh_container_source calls n ok trace fifteen one (i * 16) l (omega arith)
+pub j1_fresh : (s : Shape) (calls : ℕ → ContainerSourceCall) (n : ℕ) → Fit s → Unrefused s fresh_container_source calls n → (trace : List ℕ) → length trace ≡ 15 → ((k : ℕ) → k < n → (calls k).trace ≡ trace) → (i : ℕ) → i * 16 + 16 ≤ n → j1s s fresh_container_source calls (i * 16) 16 ≡ message trace
+j1_fresh s calls n f ok trace fifteen one i l =
+    j1_over_and_over s fresh_container_source calls n f ok trace fifteen one (i * 16) l (omega arith)
 
 -- ---- refused calls between
 
@@ -149,13 +150,14 @@ module _ (s : Shape) (first : State) (calls : ℕ → ContainerSourceCall) where
 
   -- B3 is the parity of the container sent last, call k's, however many calls were refused after it
   pub b3_past_refused :
-      (k m : ℕ)
+      Fit s
+      → (k m : ℕ)
       → (outcome_at s first calls k).sent.answer ≡ Ok tt
       → ((i : ℕ) → suc k ≤ i → i < suc k + m → (outcome_at s first calls i).sent.answer ≡ Ok tt → ⊥)
       → (outcome_at s first calls (suc k + m)).sent.answer ≡ Ok tt
       → b3 s (container_at s first calls (suc k + m)) ≡ parity_of (container_at s first calls k)
   unfolding state_at
-  b3_past_refused k m sent h again =
-      b3_sent s (state_at s first calls (suc k + m)) (calls (suc k + m)) again
+  b3_past_refused f k m sent h again =
+      b3_sent s (state_at s first calls (suc k + m)) (calls (suc k + m)) again f
       ∙ ap (λ (q : State). q.parity) (refused_between (suc k) m h)
       ∙ next_parity s (state_at s first calls k) (calls k) sent

@@ -1,6 +1,6 @@
 -- Bytes of the containers that a run sends, which the theorems about J1, B3 and the rest speak of.
 use Rattle.std.specs.Prelude.{◌≡◌, cond, List, [], ◌∷◌, ℕ, zero, suc, ◌+◌, ◌*◌, ◌<◌, get_or, Ok}
-use Rattle.shape.specs.declared.Shape.{Shape}
+use Rattle.shape.specs.Shape.{Shape}
 use Rattle.container_source.specs.declared.State.{State}
 use Rattle.container_source.specs.declared.Given.{Given}
 use Rattle.container_source_theorems.specs.Run.{ContainerSourceCall, outcome_at, container_at}

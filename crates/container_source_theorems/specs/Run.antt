@@ -1,6 +1,6 @@
 -- A run of one container source: call after call, each with the state that the call before left. The calls are numbered from 0.
 use Rattle.std.specs.Prelude.{List, ℕ, zero, suc}
-use Rattle.shape.specs.declared.Shape.{Shape}
+use Rattle.shape.specs.Shape.{Shape}
 use Rattle.container_source.specs.Source.{SentOutcome, container_source}
 use Rattle.container_source.specs.declared.State.{State}
 use Rattle.container_source.specs.declared.Given.{Given}

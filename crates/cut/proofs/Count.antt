@@ -6,8 +6,7 @@ use native.Mathlib.Nat.{mul-zero}
 use native.Mathlib.Omega.{arith}
 use lib.Dec.{ltb, leb, eqb}
 use borrow.Author.Tests.{ltb-true, ltb-false, le-leb, lt-leb, ne_eqb}
-use Rattle.shape.specs.Shape.{unit_length, place_of, held_count, offset_after, run_from, ended_by}
-use Rattle.shape.specs.declared.Shape.{Shape}
+use Rattle.shape.specs.Shape.{Shape, Fit, unit_length, place_of, held_count, offset_after, run_from, ended_by}
 use Rattle.shape.specs.declared.Adjustment.{Adjustment}
 use Rattle.shape.proofs.Offsets.{place_low, held_none, held_some, held_low}
 use Rattle.shape.proofs.Balance.{Balanced, balance}
@@ -38,13 +37,13 @@ one_inside s before next m e =
 module _ (s : Shape) (n from : ℕ) (l : Line s n from) where
   after_by_lem : (k m : ℕ) → m + s.step ≤ s.size → Balanced s n from k m → (b : Bool) → ltb 0 n ≡ b
       → After s (cond b 1 0) (cond b (from + (s.size - n)) from) k m
-  after_by_lem zero m h e true t = absurd (omega (arith, s.fits.some, l.ends_within (ltb-true 0 n t)))
-  after_by_lem zero m h e false t = let z = ltb-false 0 n t in none_inside s 0 from m (omega arith) (omega (arith, s.fits.some))
-  after_by_lem (suc zero) m h e true t = none_inside s 1 (from + (s.size - n)) m (omega (arith, l.kept_low)) (omega (arith, s.fits.some))
+  after_by_lem zero m h e true t = absurd (omega (arith, l.fit.some, l.ends_within (ltb-true 0 n t)))
+  after_by_lem zero m h e false t = let z = ltb-false 0 n t in none_inside s 0 from m (omega arith) (omega (arith, l.fit.some))
+  after_by_lem (suc zero) m h e true t = none_inside s 1 (from + (s.size - n)) m (omega (arith, l.kept_low)) (omega (arith, l.fit.some))
   after_by_lem (suc zero) m h e false t = let z = ltb-false 0 n t in one_inside s 0 from m (omega arith)
   after_by_lem (suc (suc zero)) m h e true t = one_inside s 1 (from + (s.size - n)) m (omega (arith, l.kept_low))
-  after_by_lem (suc (suc zero)) m h e false t = let z = ltb-false 0 n t in absurd (omega (arith, s.fits.two, s.fits.some, l.behind))
-  after_by_lem (suc (suc (suc k))) m h e b t = absurd (omega (arith, s.fits.two, s.fits.some, l.behind, l.kept_low))
+  after_by_lem (suc (suc zero)) m h e false t = let z = ltb-false 0 n t in absurd (omega (arith, l.fit.two, l.fit.some, l.behind))
+  after_by_lem (suc (suc (suc k))) m h e b t = absurd (omega (arith, l.fit.two, l.fit.some, l.behind, l.kept_low))
 
   rest_by : (k m : ℕ) → m + s.step ≤ s.size → Balanced s n from k m → (cut_of s n from).rest ≡ m
   unfolding cut_of next_of
@@ -57,30 +56,30 @@ module _ (s : Shape) (n from : ℕ) (l : Line s n from) where
 -- ---- a unit that goes on
 
 -- "a normal state's held count": every unit leaves it so
-pub rest_goes : (s : Shape) (a : Adjustment) (v : ℕ) → v ≤ s.top
+pub rest_goes : (s : Shape) (a : Adjustment) (v : ℕ) → Fit s → v ≤ s.top
     → (cut_of s (held_count s v) (run_from s.step a)).rest ≡ held_count s (offset_after s.top a v)
-rest_goes s a v h =
+rest_goes s a v f h =
     let w = offset_after s.top a v in
-    rest_by s (held_count s v) (run_from s.step a) (line_goes s a v h) (ended_by a v) (held_count s w) (held_low s w) (balance s a v h)
+    rest_by s (held_count s v) (run_from s.step a) (line_goes s a v f h) (ended_by a v) (held_count s w) (held_low s w f) (balance s a v f h)
 
-pub ends_goes : (s : Shape) (a : Adjustment) (v : ℕ) → v ≤ s.top → ended_count (cut_of s (held_count s v) (run_from s.step a)) ≡ ended_by a v
-ends_goes s a v h =
+pub ends_goes : (s : Shape) (a : Adjustment) (v : ℕ) → Fit s → v ≤ s.top → ended_count (cut_of s (held_count s v) (run_from s.step a)) ≡ ended_by a v
+ends_goes s a v f h =
     let w = offset_after s.top a v in
-    ended_by_lem s (held_count s v) (run_from s.step a) (line_goes s a v h) (ended_by a v) (held_count s w) (held_low s w) (balance s a v h)
+    ended_by_lem s (held_count s v) (run_from s.step a) (line_goes s a v f h) (ended_by a v) (held_count s w) (held_low s w f) (balance s a v f h)
 
 -- ---- a unit that starts anew
 
 -- from J1 on, the run is a container that ends, at offset 0, or what is held
-restart_balance : (s : Shape) (w : ℕ) → w ≤ s.top → Balanced s 0 (3 * s.step + place_of s w) (cond (eqb w 0) 1 0) (held_count s w)
-restart_balance s zero h = rw mul-zero (omega (arith, held_none s))
-restart_balance s (suc w) h =
+restart_balance : (s : Shape) (w : ℕ) → Fit s → w ≤ s.top → Balanced s 0 (3 * s.step + place_of s w) (cond (eqb w 0) 1 0) (held_count s w)
+restart_balance s zero f h = rw mul-zero (omega (arith, held_none s))
+restart_balance s (suc w) f h =
     let some : eqb (suc w) 0 ≡ false = ne_eqb (suc w) 0 (λ e. omega arith) in
-    simp some (omega (arith, held_some s w, place_low s (suc w) h))
+    simp some (omega (arith, held_some s w, place_low s (suc w) f h))
 
-pub rest_restarts : (s : Shape) (w : ℕ) → w ≤ s.top → (cut_of s 0 (3 * s.step + place_of s w)).rest ≡ held_count s w
-rest_restarts s w h =
-    rest_by s 0 (3 * s.step + place_of s w) (line_restarts s w h) (cond (eqb w 0) 1 0) (held_count s w) (held_low s w) (restart_balance s w h)
+pub rest_restarts : (s : Shape) (w : ℕ) → Fit s → w ≤ s.top → (cut_of s 0 (3 * s.step + place_of s w)).rest ≡ held_count s w
+rest_restarts s w f h =
+    rest_by s 0 (3 * s.step + place_of s w) (line_restarts s w f h) (cond (eqb w 0) 1 0) (held_count s w) (held_low s w f) (restart_balance s w f h)
 
-pub ends_restarts : (s : Shape) (w : ℕ) → w ≤ s.top → ended_count (cut_of s 0 (3 * s.step + place_of s w)) ≡ cond (eqb w 0) 1 0
-ends_restarts s w h =
-    ended_by_lem s 0 (3 * s.step + place_of s w) (line_restarts s w h) (cond (eqb w 0) 1 0) (held_count s w) (held_low s w) (restart_balance s w h)
+pub ends_restarts : (s : Shape) (w : ℕ) → Fit s → w ≤ s.top → ended_count (cut_of s 0 (3 * s.step + place_of s w)) ≡ cond (eqb w 0) 1 0
+ends_restarts s w f h =
+    ended_by_lem s 0 (3 * s.step + place_of s w) (line_restarts s w f h) (cond (eqb w 0) 1 0) (held_count s w) (held_low s w f) (restart_balance s w f h)

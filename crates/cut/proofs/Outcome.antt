@@ -8,7 +8,7 @@ use lib.Dec.{ltb}
 use lib.ListN.{length, length-append, length-take, length-drop}
 use borrow.Author.Tests.{ltb-true}
 use Rattle.laws.proofs.Tests.{by_test}
-use Rattle.shape.specs.declared.Shape.{Shape}
+use Rattle.shape.specs.Shape.{Shape}
 use Rattle.cut.specs.Cut.{cut_of, completed_of, inside_part, one_if, ended_of, ended_count, done_of, held_of}
 use Rattle.cut.specs.Inner.{Line, Sizes}
 use Rattle.cut.specs.declared.Cut.{Cut}

@@ -6,8 +6,7 @@ use native.Mathlib.Omega.{arith}
 use lib.Dec.{ltb, leb}
 use borrow.Author.Tests.{ltb-true, leb-true, leb-false}
 use Rattle.laws.proofs.Tests.{by_test}
-use Rattle.shape.specs.Shape.{unit_length}
-use Rattle.shape.specs.declared.Shape.{Shape}
+use Rattle.shape.specs.Shape.{Shape, Fit, unit_length}
 use Rattle.cut.specs.declared.Cut.{Cut}
 use Rattle.cut.specs.Cut.{next_of, inside_of, begin_of, cut_of}
 use Rattle.cut.specs.Inner.{Line}
@@ -26,16 +25,16 @@ next_between s kept from l =
     (λ _. record { behind = l.behind; within = l.within })
 
 -- so what is held from it on is no more than a container
-begin_between : (s : Shape) (next : ℕ) → Between s (2 * s.step) next → Between s (3 * s.step) (begin_of s next)
+begin_between : (s : Shape) (next : ℕ) → Fit s → Between s (2 * s.step) next → Between s (3 * s.step) (begin_of s next)
 unfolding begin_of inside_of
-begin_between s next n =
+begin_between s next f n =
     by_test (λ (b : ℕ). Between s (3 * s.step) b) (leb next (3 * s.step))
-    (λ e. record { behind = omega (arith, n.behind, s.fits.two); within = omega (arith, leb-true next (3 * s.step) e) })
+    (λ e. record { behind = omega (arith, n.behind, f.two); within = omega (arith, leb-true next (3 * s.step) e) })
     (λ e. record { behind = omega (arith, leb-false next (3 * s.step) e); within = n.within })
 
 module _ (s : Shape) (kept from : ℕ) (l : Line s kept from) where
   begins : Between s (3 * s.step) (begin_of s (next_of s kept from))
-  begins = begin_between s (next_of s kept from) (next_between s kept from l)
+  begins = begin_between s (next_of s kept from) l.fit (next_between s kept from l)
 
   pub next_low : next_of s kept from ≤ unit_length s
   next_low = (next_between s kept from l).within

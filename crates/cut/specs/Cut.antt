@@ -4,8 +4,7 @@
 --   kept, the held bytes that the unit goes on with: 0 where none are held, or where they were dropped;
 --   from, the place where its run begins, counted from H1.
 use Rattle.std.specs.Prelude.{Bool, cond, List, [], ◌∷◌, ◌++◌, ℕ, ◌+◌, ◌-◌, ◌*◌, take, drop, ltb, leb}
-use Rattle.shape.specs.Shape.{unit_length}
-use Rattle.shape.specs.declared.Shape.{Shape}
+use Rattle.shape.specs.Shape.{Shape, unit_length}
 use Rattle.cut.specs.declared.Cut.{Cut}
 
 -- ---- the cut, as numbers

@@ -1,12 +1,12 @@
 -- What the code asks of a unit's bytes before it cuts them, and what it promises of the cut. No rule of 01 stands here, and no promise of the sink cites this file.
 use Rattle.std.specs.Prelude.{◌≡◌, List, ℕ, ◌+◌, ◌-◌, ◌*◌, ◌≤◌, ◌<◌, length}
-use Rattle.shape.specs.Shape.{unit_length}
-use Rattle.shape.specs.declared.Shape.{Shape}
+use Rattle.shape.specs.Shape.{Shape, Fit, unit_length}
 use Rattle.cut.specs.declared.Cut.{Cut}
 use Rattle.cut.specs.Cut.{cut_of, done_of, held_of}
 
 -- a line of bytes: the run begins in the unit and not before H3, and a container begun earlier ends in the unit
 pub record Line (s : Shape) (kept from : ℕ) : Type 0 where
+  pub fit : Fit s
   pub behind : 2 * s.step ≤ from
   pub within : from ≤ unit_length s
   pub kept_low : kept ≤ s.size

@@ -4,6 +4,7 @@
 
 ghost use Rattle.std.specs.Prelude.{◌≡◌, ◌++◌, ◌+◌, ◌≤◌, length, drop};
 ghost use Rattle.shape.specs.Shape.{unit_length};
+ghost use Rattle.shape.specs.Numbers.{numbers};
 ghost use Rattle.cut.specs.Cut.{next_of, begin_of, cut_of, done_of};
 ghost use Rattle.cut.specs.Inner.{Line, Sizes, Cuts};
 
@@ -30,8 +31,8 @@ pub struct Cut {
 
 // The place from which the unit's bytes are held.
 fn begin_place(shape: Shape, next: usize) -> usize
-    requires { next ≤ unit_length shape }
-    ensures { result ≡ begin_of shape next }
+    requires { next ≤ unit_length (numbers shape) }
+    ensures { result ≡ begin_of (numbers shape) next }
 {
     if next <= 3 * shape.step {
         return next + shape.size;
@@ -53,13 +54,13 @@ struct OneLine {
     shape: Shape,
     kept: usize,
     from: usize,
-    ghost line: { Line shape kept from },
+    ghost line: { Line (numbers shape) kept from },
 }
 
 impl OneLine {
     // The place after the container begun earlier.
     fn next_place(self) -> usize
-        ensures { result ≡ next_of self.shape self.kept self.from }
+        ensures { result ≡ next_of (numbers self.shape) self.kept self.from }
     {
         if 0 < self.kept {
             return self.from + (self.shape.size - self.kept);
@@ -69,7 +70,7 @@ impl OneLine {
 
     // The cut as numbers; no byte is looked at.
     fn places(self) -> Cut
-        ensures { result ≡ cut_of self.shape self.kept self.from }
+        ensures { result ≡ cut_of (numbers self.shape) self.kept self.from }
     {
         let next = self.next_place();
         let begin = begin_place(self.shape, next);
@@ -86,8 +87,8 @@ impl OneLine {
 
     // A container begun earlier is completed in `done`: the held bytes first, and the unit's bytes from the held count on. Where none was begun, `done` is not touched.
     fn complete(self, unit: &[u8], held: &[u8], done: &mut [u8])
-        requires { Sizes self.shape unit.now held.now done.old }
-        ensures { done.new ≡ done_of self.shape (cut_of self.shape self.kept self.from) unit.now held.now done.old }
+        requires { Sizes (numbers self.shape) unit.now held.now done.old }
+        ensures { done.new ≡ done_of (numbers self.shape) (cut_of (numbers self.shape) self.kept self.from) unit.now held.now done.old }
     {
         let OneLine { shape, kept, from } = self;
         if kept == 0 {
@@ -108,8 +109,8 @@ pub fn cut_unit(
     held: &mut [u8],
     done: &mut [u8],
 ) -> Cut
-    requires { (Line shape kept from) × (Sizes shape unit.now held.old done.old) }
-    ensures { Cuts shape kept from unit.now held.old done.old result held.new done.new }
+    requires { (Line (numbers shape) kept from) × (Sizes (numbers shape) unit.now held.old done.old) }
+    ensures { Cuts (numbers shape) kept from unit.now held.old done.old result held.new done.new }
 {
     let line = OneLine { shape, kept, from };
     let cut = line.places();

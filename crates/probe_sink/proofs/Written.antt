@@ -5,8 +5,7 @@ use Prim.Native.Nat.{ℕ, ◌<◌, ◌≤◌}
 use lib.ListN.{length}
 use borrow.Author.Tests.{lt-ltb, le-ltb}
 use Rattle.copier.specs.Put.{put}
-use Rattle.shape.specs.Shape.{au4}
-use Rattle.shape.specs.declared.Shape.{Shape}
+use Rattle.shape.specs.Shape.{Shape, au4}
 use Rattle.receiving.specs.declared.Ended.{Ended}
 use Rattle.view.specs.View.{container_handed}
 use Rattle.probe_sink.specs.Probe.{ContainerWritten, written_to, WritesContainer}

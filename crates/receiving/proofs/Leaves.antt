@@ -7,8 +7,7 @@ use Prim.Native.Nat.{ℕ, zero, suc, ◌+◌, ◌-◌, ◌*◌, ◌<◌, ◌≤�
 use native.Mathlib.Omega.{arith}
 use lib.ListN.{get_or, length, take, drop}
 use Rattle.copier.proofs.Parts.{length_part}
-use Rattle.shape.specs.Shape.{unit_length}
-use Rattle.shape.specs.declared.Shape.{Shape}
+use Rattle.shape.specs.Shape.{Shape, Fit, unit_length}
 use Rattle.pointer_rules.specs.declared.Taken.{Taken}
 use Rattle.cut.specs.Cut.{cut_of, completed_of, inside_part, done_of, held_of}
 use Rattle.cut.specs.Inner.{Line, Cuts}
@@ -28,8 +27,8 @@ use Rattle.receiving.specs.Inner.{NormalOutcomeIs, Inside, Seeable, Receivable}
 
 -- ---- what is watched
 
-some_columns : (s : Shape) → 0 < s.columns
-some_columns s = omega (arith, s.fits.nine, s.fits.two, s.fits.some)
+some_columns : (s : Shape) → Fit s → 0 < s.columns
+some_columns s f = omega (arith, f.nine, f.two, f.some)
 
 -- what is seen in the done buffer is the completed container, where one was completed
 watched_done : (s : Shape) (c : Cut) (unit held done : List ℕ) (e : Settings) (m : Monitor) (b : Bool) → c.ends ≡ b
@@ -48,11 +47,11 @@ taken_watched true columns container e m = refl
 taken_watched false columns container e m = refl
 
 -- what can be watched is long enough
-pub done_long : (s : Shape) (done : List ℕ) → length done ≡ s.size → (0 < s.columns) × (3 * s.columns < length done)
-done_long s done l = (some_columns s, omega (arith, l, some_columns s, s.fits.nine))
+pub done_long : (s : Shape) (done : List ℕ) → Fit s → length done ≡ s.size → (0 < s.columns) × (3 * s.columns < length done)
+done_long s done f l = (some_columns s f, omega (arith, l, some_columns s f, f.nine))
 
 pub done_seen : (s : Shape) (c : Cut) (unit done : List ℕ) → Seeable s c unit done → (0 < s.columns) × (3 * s.columns < length done)
-done_seen s c unit done w = done_long s done w.done_is
+done_seen s c unit done w = done_long s done w.part.fit w.done_is
 
 module _ (s : Shape) (c : Cut) (unit : List ℕ) (w : Inside s c unit) (h : c.inside ≡ true) where
   pub end_low : c.next + s.size ≤ unit_length s
@@ -60,7 +59,7 @@ module _ (s : Shape) (c : Cut) (unit : List ℕ) (w : Inside s c unit) (h : c.in
 
   -- so that the end is a number of the machine's, and a place in the unit
   pub end_counted : c.next + s.size < 2 ^ 64
-  end_counted = omega (arith, end_low, s.fits.two, s.fits.low)
+  end_counted = omega (arith, end_low, w.fit.two, w.fit.low)
 
   pub end_within : c.next + s.size ≤ length unit
   end_within = w.within h
@@ -74,7 +73,7 @@ module _ (s : Shape) (c : Cut) (unit : List ℕ) (w : Inside s c unit) (h : c.in
   pub part_long : (0 < s.columns) × (3 * s.columns < length (take (c.next + s.size - c.next) (drop c.next unit)))
   part_long =
       let l = length_part unit c.next s.size (w.within h) in
-      (some_columns s, omega (arith, l, some_columns s, s.fits.nine))
+      (some_columns s w.fit, omega (arith, l, some_columns s w.fit, w.fit.nine))
 
   pub seen_part : (o : Overhead) → o ≡ seen_in s.columns (take (c.next + s.size - c.next) (drop c.next unit))
       → Some o ≡ seen_where c.inside s.columns (inside_part s c unit)
@@ -95,6 +94,9 @@ both_watched s c done inside m e o p r h i j =
 module _ (s : Shape) (t : Taken) (offset count : ℕ) (unit held done : List ℕ) (q : Receivable s t offset count unit held done)
     (b : Begin) (b-is : b ≡ begin_in s t offset count)
   where
+    pub fit_is : Fit s
+    fit_is = q.line.fit
+
     pub line_is : Line s b.kept b.from
     line_is = rw b-is q.line
 
@@ -107,6 +109,7 @@ module _ (s : Shape) (t : Taken) (offset count : ℕ) (unit held done : List ℕ
             record {
               part =
                   record {
+                    fit = fit_is;
                     within = λ h. omega (arith, next_is, inside_fits s b.kept b.from line_is (sym inside_is ∙ h), q.sizes.unit_is);
                     low = q.sizes.unit_is;
                   };

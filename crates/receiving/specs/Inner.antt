@@ -1,7 +1,6 @@
 -- What the code asks of a unit before it takes it in, and what it promises of one that ends normal. No rule of 01 stands here, and no promise of the sink cites this file.
 use Rattle.std.specs.Prelude.{◌≡◌, ℕ, ◌+◌, ◌≤◌, true, List, length}
-use Rattle.shape.specs.Shape.{unit_length}
-use Rattle.shape.specs.declared.Shape.{Shape}
+use Rattle.shape.specs.Shape.{Shape, Fit, unit_length}
 use Rattle.pointer_rules.specs.declared.Taken.{Taken}
 use Rattle.cut.specs.Inner.{Line, Sizes}
 use Rattle.cut.specs.declared.Cut.{Cut}
@@ -15,6 +14,7 @@ NormalOutcomeIs s t offset count m e unit held done r held' done' =
     ◌≡◌ {A = UnitOutcome} (record { after = r; held = held'; done = done' }) (received_normal s t offset count m e unit held done)
 
 pub record Inside (s : Shape) (c : Cut) (unit : List ℕ) : Type 0 where
+  pub fit : Fit s
   pub within : c.inside ≡ true → c.next + s.size ≤ length unit
   pub low : length unit ≡ unit_length s
 

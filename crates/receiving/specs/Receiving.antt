@@ -1,8 +1,7 @@
 -- What a unit leaves: the containers that ended, watched in order, and the bytes held. 01, "Reading one pointer word" (its last words), "Containers out of a unit"
 -- and "Defects, actions, causes" ("per container, in order").
 use Rattle.std.specs.Prelude.{ℕ, ◌+◌, ◌*◌, Bool, false, cond, List}
-use Rattle.shape.specs.Shape.{place_of, run_from}
-use Rattle.shape.specs.declared.Shape.{Shape}
+use Rattle.shape.specs.Shape.{Shape, place_of, run_from}
 use Rattle.shape.specs.declared.Adjustment.{Adjustment}
 use Rattle.pointer_rules.specs.Rules.{restarts, adjustment_of}
 use Rattle.pointer_rules.specs.declared.Taken.{Taken}

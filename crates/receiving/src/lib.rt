@@ -3,6 +3,7 @@
 #![tactic(auto)]
 
 ghost use Rattle.std.specs.Prelude.{◌≡◌, ◌*◌, ◌<◌, ◌≤◌, length};
+ghost use Rattle.shape.specs.Numbers.{numbers};
 ghost use Rattle.cut.specs.Cut.{inside_part};
 ghost use Rattle.receiving.specs.InnerTurns.{seen_where, taken, taken_both};
 ghost use Rattle.receiving.specs.Receiving.{monitor_in, from_in, begin_in, not_seen, ended_in, silence, both_seen};
@@ -66,7 +67,7 @@ fn monitor_in(t: Taken, m: Monitor) -> Monitor
 #[tactic(auto, unfolding(crate::specs::Receiving::from_in))]
 fn from(shape: Shape, restart: bool, a: Adjustment, offset: u16) -> usize
     requires { offset ≤ shape.top }
-    ensures { result ≡ from_in shape restart a offset }
+    ensures { result ≡ from_in (numbers shape) restart a offset }
 {
     if restart {
         3 * shape.step + shape.place(offset)
@@ -79,7 +80,7 @@ fn from(shape: Shape, restart: bool, a: Adjustment, offset: u16) -> usize
 #[tactic(auto, unfolding(crate::specs::Receiving::begin_in))]
 fn goes_on(shape: Shape, t: Taken, offset: u16, count: usize) -> Begin
     requires { offset ≤ shape.top }
-    ensures { result ≡ begin_in shape t offset count }
+    ensures { result ≡ begin_in (numbers shape) t offset count }
 {
     let restart = pointer_rules::is_restart(t);
     Begin {
@@ -102,8 +103,8 @@ fn see_completed(shape: Shape, c: Cut, done: &[u8]) -> Option<Overhead>
 
 // The container inside the unit, seen where there is one: that part of the unit is passed on.
 fn see_inside(shape: Shape, c: Cut, unit: &[u8]) -> Option<Overhead>
-    requires { Inside shape c unit.now }
-    ensures { result ≡ seen_where c.inside shape.columns (inside_part shape c unit.now) }
+    requires { Inside (numbers shape) c unit.now }
+    ensures { result ≡ seen_where c.inside shape.columns (inside_part (numbers shape) c unit.now) }
 {
     if c.inside {
         let end = c.next + shape.size;
@@ -204,8 +205,8 @@ fn take_both(
 
 // What is seen in a unit cut so: in the done buffer, and then in the unit itself.
 fn watch_both(shape: Shape, c: Cut, unit: &[u8], done: &[u8], m: Monitor, e: Settings) -> AfterUnit
-    requires { Seeable shape c unit.now done.now }
-    ensures { result ≡ both_seen shape c done.now (inside_part shape c unit.now) m e }
+    requires { Seeable (numbers shape) c unit.now done.now }
+    ensures { result ≡ both_seen (numbers shape) c done.now (inside_part (numbers shape) c unit.now) m e }
 {
     let completed = see_completed(shape, c, done);
     let inside = see_inside(shape, c, unit);
@@ -225,8 +226,8 @@ pub fn receive(
     held: &mut [u8],
     done: &mut [u8],
 ) -> AfterUnit
-    requires { Receivable shape t offset count unit.now held.old done.old }
-    ensures { NormalOutcomeIs shape t offset count m e unit.now held.old done.old result held.new done.new }
+    requires { Receivable (numbers shape) t offset count unit.now held.old done.old }
+    ensures { NormalOutcomeIs (numbers shape) t offset count m e unit.now held.old done.old result held.new done.new }
 {
     let b = goes_on(shape, t, offset, count);
     let before = monitor_in(t, m);

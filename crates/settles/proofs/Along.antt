@@ -10,8 +10,7 @@ use lib.Dec.{ltb}
 use lib.ListN.{take}
 use borrow.Author.Tests.{ltb-true, ltb-false, le-ltb}
 use Rattle.counts.specs.Counts.{more}
-use Rattle.shape.specs.Shape.{held_count, offset_after, ended_by}
-use Rattle.shape.specs.declared.Shape.{Shape}
+use Rattle.shape.specs.Shape.{Shape, Fit, held_count, offset_after, ended_by}
 use Rattle.shape.specs.declared.Adjustment.{Adjustment}
 use Rattle.shape.specs.declared.Adjustment.TheVariants.{Nothing, Increment, Decrement}
 use Rattle.unit_source.specs.Source as unit-source
@@ -29,6 +28,7 @@ five = 5
 
 -- what is asked of a run for that: settings that no number refuses, both ends able to be called, and requests that are spaced
 pub record Runs (s : Shape) (r : Run) : Type 0 where
+  pub fit : Fit s
   pub set : Settable r
   pub ready : Ready s r (path_at s r 0)
   pub spaced : Spaced five r.ask
@@ -57,7 +57,7 @@ plain_wait Decrement wait e = absurd (true≢false e)
 
 module _ (s : Shape) (r : Run) (u : Runs s r) where
   small : s.top < 1024
-  small = s.fits.ten
+  small = u.fit.ten
 
   not_early : (n : ℕ) → adjusts (r.ask n) ≡ true → five ≤ n
   unfolding adjusts
@@ -80,8 +80,8 @@ module _ (s : Shape) (r : Run) (u : Runs s r) where
       let low = h.source_fine.offset_low in
       let now = ((nearing_plain s.top small v low n x.state.pointer near).locked (omega arith)).state_is in
       ⊎_elim
-      (λ e. held_restarts s r u.set x h late e now)
-      (λ e. held_goes s r u.set x Nothing h late e.1 e.0 now)
+      (λ e. held_restarts s u.fit r u.set x h late e now)
+      (λ e. held_goes s u.fit r u.set x Nothing h late e.1 e.0 now)
       (third s.top small v low n x.state.pointer w near)
 
   module _ (n : ℕ) (x : Path) (h : Along s r n x) where
@@ -125,14 +125,14 @@ module _ (s : Shape) (r : Run) (u : Runs s r) where
 
     pub offset_is : y.source.state.offset ≡ offset_after s.top (r.ask n) x.source.state.offset
     unfolding unit-source.unit_source_after
-    offset_is = rw (source_after_lem s r u.set x (r.ask n) h.ready late)
+    offset_is = rw (source_after_lem s u.fit r u.set x (r.ask n) h.ready late)
 
     wait_is : y.source.state.wait ≡ source_wait_after (r.ask n) x.source.state.wait
     unfolding unit-source.unit_source_after
-    wait_is = rw (source_after_lem s r u.set x (r.ask n) h.ready late)
+    wait_is = rw (source_after_lem s u.fit r u.set x (r.ask n) h.ready late)
 
     pub number_is : y.source.number ≡ x.source.number + ended_by (r.ask n) x.source.state.offset
-    number_is = rw (source_after_lem s r u.set x (r.ask n) h.ready late)
+    number_is = rw (source_after_lem s u.fit r u.set x (r.ask n) h.ready late)
 
     waited_on : (j : ℕ) → j ≤ 3 → j ≤ suc n → ((i : ℕ) → suc n ≤ i + j → i < suc n → adjusts (r.ask i) ≡ false) → j ≤ y.source.state.wait
     waited_on zero a b plain = omega arith
@@ -149,7 +149,7 @@ module _ (s : Shape) (r : Run) (u : Runs s r) where
       nearing_on : Nearing y.source.state.offset (suc n) y.state.pointer
       unfolding offset_after word_sent
       nearing_on =
-          rw (offset_is, pointer_after s r u.set x (r.ask n) h.ready late, nothing, ← (add-one n))
+          rw (offset_is, pointer_after s u.fit r u.set x (r.ask n) h.ready late, nothing, ← (add-one n))
           (nearing_plain s.top small x.source.state.offset h.ready.source_fine.offset_low n x.state.pointer (h.nearing (omega arith)))
 
       together_early : 2 ≤ n → take (held_count s y.source.state.offset) y.held ≡ take (held_count s y.source.state.offset) (r.box y.source.number)
@@ -161,13 +161,13 @@ module _ (s : Shape) (r : Run) (u : Runs s r) where
     module _ (later : five ≤ n) where
       locked_on : Locked y.source.state.offset y.source.state.wait y.state.pointer
       locked_on =
-          rw (offset_is, wait_is, pointer_after s r u.set x (r.ask n) h.ready late)
+          rw (offset_is, wait_is, pointer_after s u.fit r u.set x (r.ask n) h.ready late)
           (follows s.top small (r.ask n) x.source.state.offset h.ready.source_fine.offset_low x.source.state.wait x.state.pointer late_enough (h.locked later)).locked
 
       together_later : take (held_count s y.source.state.offset) y.held ≡ take (held_count s y.source.state.offset) (r.box y.source.number)
       together_later =
           let m = meets (omega arith) in
-          rw (offset_is, number_is) (held_goes s r u.set x (r.ask n) h.ready late m.was m.taken_is m.now)
+          rw (offset_is, number_is) (held_goes s u.fit r u.set x (r.ask n) h.ready late m.was m.taken_is m.now)
 
     pub along_on : Along s r (suc n) y
     along_on = go (ltb n five) refl
@@ -176,7 +176,7 @@ module _ (s : Shape) (r : Run) (u : Runs s r) where
         go true q =
             let early = ltb-true n five q in
             record {
-              ready = ready_after s r u.set x (r.ask n) h.ready late;
+              ready = ready_after s u.fit r u.set x (r.ask n) h.ready late;
               waited = waited_on;
               nearing = λ _. nearing_on early;
               locked = λ e. nearing_locked y.source.state.offset (suc n) y.source.state.wait y.state.pointer (omega arith) (nearing_on early);
@@ -185,7 +185,7 @@ module _ (s : Shape) (r : Run) (u : Runs s r) where
         go false q =
             let later = ltb-false n five q in
             record {
-              ready = ready_after s r u.set x (r.ask n) h.ready late;
+              ready = ready_after s u.fit r u.set x (r.ask n) h.ready late;
               waited = waited_on;
               nearing = λ e. absurd (omega arith);
               locked = λ _. locked_on later;

@@ -7,8 +7,7 @@ use native.Mathlib.Nat.{add-zero, add-suc, add-mul, suc-mul, zero-mul, mul-le-mu
 use native.Mathlib.Omega.{arith}
 use lib.Dec.{leb}
 use borrow.Author.Tests.{leb-true, leb-false}
-use Rattle.shape.specs.Shape.{held_count, ended_by}
-use Rattle.shape.specs.declared.Shape.{Shape}
+use Rattle.shape.specs.Shape.{Shape, held_count, ended_by}
 use Rattle.shape.proofs.Offsets.{held_low}
 use Rattle.settles_stream.proofs.Together.{unit_bytes}
 use Rattle.settles.specs.Demand.{Run, path_at}
@@ -30,7 +29,7 @@ module _ (s : Shape) (r : Run) (u : Runs s r) where
   unfolding path_at
   unit_on n =
       let x = path_at s r n in
-      rw (offset_is s r u n x (along s r u n)) (unit_bytes s (r.ask n) x.source.state.offset (along s r u n).ready.source_fine.offset_low)
+      rw (offset_is s r u n x (along s r u n)) (unit_bytes s u.fit (r.ask n) x.source.state.offset (along s r u n).ready.source_fine.offset_low)
 
   -- all bytes that were sent before, and so many more units
   bytes_on : (m j : ℕ) → number_at m * s.size + held_at m + j * s.size ≤ number_at (m + j) * s.size + held_at (m + j) + j * s.step
@@ -54,4 +53,4 @@ module _ (s : Shape) (r : Run) (u : Runs s r) where
       go false t =
           let less : number_at (m + j) + 2 ≤ number_at m + j = omega (arith, leb-false (number_at m + j) (number_at (m + j) + 1) t) in
           let bytes : (number_at (m + j) + 2) * s.size ≤ (number_at m + j) * s.size = mul-le-mul_right s.size less in
-          absurd (omega (arith, bytes_on m j, held_low s (path_at s r (m + j)).source.state.offset, s.fits.some, add-mul (number_at (m + j)) 2 s.size, add-mul (number_at m) j s.size))
+          absurd (omega (arith, bytes_on m j, held_low s (path_at s r (m + j)).source.state.offset u.fit, u.fit.some, add-mul (number_at (m + j)) 2 s.size, add-mul (number_at m) j s.size))

@@ -6,8 +6,7 @@ use mathlib.Core.List.{List, ◌++◌}
 use Prim.Native.Nat.{ℕ, zero, suc, ◌+◌, ◌≤◌, min}
 use native.Mathlib.Omega.{arith}
 use Rattle.std.specs.Prelude.{Ok}
-use Rattle.shape.specs.Shape.{ended_by}
-use Rattle.shape.specs.declared.Shape.{Shape}
+use Rattle.shape.specs.Shape.{Shape, ended_by}
 use Rattle.unit_source.specs.Source as unit-source
 use Rattle.unit_source_theorems.specs.Sending as stream
 use Rattle.settles_stream.specs.InOrder.{boxes, violated_told}
@@ -28,13 +27,13 @@ total_on false total before n e = omega arith
 module _ (s : Shape) (r : Run) (u : Runs s r) where
   -- no call is refused
   pub sent_all : (n : ℕ) → (sent_at s r n).made.answer ≡ Ok tt
-  sent_all n = ap (λ (o : unit-source.MadeOutcome). o.made.answer) (sent_is s r u.set (path_at s r n) (r.ask n) (along s r u n).ready (late s r u n (path_at s r n) (along s r u n)))
+  sent_all n = ap (λ (o : unit-source.MadeOutcome). o.made.answer) (sent_is s u.fit r u.set (path_at s r n) (r.ask n) (along s r u n).ready (late s r u n (path_at s r n) (along s r u n)))
 
   pub fed_all : (n : ℕ) → (fed_at s r n).received.answer ≡ Ok tt
-  fed_all n = fed_done s r u.set (path_at s r n) (r.ask n) (along s r u n).ready (late s r u n (path_at s r n) (along s r u n))
+  fed_all n = fed_done s u.fit r u.set (path_at s r n) (r.ask n) (along s r u n).ready (late s r u n (path_at s r n) (along s r u n))
 
   ended_is : (n : ℕ) → (sent_at s r n).made.ended ≡ ended_by (r.ask n) (path_at s r n).source.state.offset
-  ended_is n = ap (λ (o : unit-source.MadeOutcome). o.made.ended) (sent_is s r u.set (path_at s r n) (r.ask n) (along s r u n).ready (late s r u n (path_at s r n) (along s r u n)))
+  ended_is n = ap (λ (o : unit-source.MadeOutcome). o.made.ended) (sent_is s u.fit r u.set (path_at s r n) (r.ask n) (along s r u n).ready (late s r u n (path_at s r n) (along s r u n)))
 
   -- the source goes on as many containers as it says ended
   pub number_on : (n : ℕ) → number_at s r u (suc n) ≡ number_at s r u n + (sent_at s r n).made.ended
@@ -48,7 +47,7 @@ module _ (s : Shape) (r : Run) (u : Runs s r) where
   total_all (suc n) =
       let x = path_at s r n in
       let settled = (fed_at s r n).received.settled in
-      total_after s r u.set x (r.ask n) (along s r u n).ready (late s r u n x (along s r u n))
+      total_after s u.fit r u.set x (r.ask n) (along s r u n).ready (late s r u n x (along s r u n))
       ∙ total_on settled x.state.total r.state.total (unsettled (received_at s r) n) (total_all n)
 
   -- from the fourth unit on: what is handed back, what the monitor has watched, and the columns told
@@ -68,25 +67,25 @@ module _ (s : Shape) (r : Run) (u : Runs s r) where
     pub handed_all : handed_at s r (path_at s r) (received_at s r) n ≡ cs
     unfolding path_at path_after stream.sending_after
     handed_all =
-        handed_goes s r u.set x (r.ask n) h.ready (late s r u n x h) m.was m.taken_is m.now (h.together w)
+        handed_goes s u.fit r u.set x (r.ask n) h.ready (late s r u n x h) m.was m.taken_is m.now (h.together w)
         ∙ ap (boxes r.box x.source.number) (sym (ended_is n))
 
     pub monitor_all : (path_at s r (suc n)).state.monitor ≡ watched_all s.columns r.settings x.state.monitor cs
     unfolding path_at
     monitor_all =
-        monitor_goes s r u.set x (r.ask n) h.ready (late s r u n x h) m.was m.taken_is m.now (h.together w)
+        monitor_goes s u.fit r u.set x (r.ask n) h.ready (late s r u n x h) m.was m.taken_is m.now (h.together w)
         ∙ ap (λ (k : ℕ). watched_all s.columns r.settings x.state.monitor (boxes r.box x.source.number k)) (sym (ended_is n))
 
     pub told_all : violated_told (fed_at s r n).received.ended ≡ violated_all s.columns r.settings x.state.monitor cs
     told_all =
-        told_goes s r u.set x (r.ask n) h.ready (late s r u n x h) m.was m.taken_is m.now (h.together w)
+        told_goes s u.fit r u.set x (r.ask n) h.ready (late s r u n x h) m.was m.taken_is m.now (h.together w)
         ∙ ap (λ (k : ℕ). violated_all s.columns r.settings x.state.monitor (boxes r.box x.source.number k)) (sym (ended_is n))
 
     pub settled_all : (fed_at s r n).received.settled ≡ settled_of true (path_at s r (suc n)).state.monitor r.settings
     unfolding path_at
     settled_all =
-        settled_is s r u.set x (r.ask n) h.ready (late s r u n x h)
-        ∙ ap (λ (b : Bool). settled_of b (path_after s r x (r.ask n)).state.monitor r.settings) (normal s r u.set x (r.ask n) h.ready (late s r u n x h) m.was m.taken_is m.now)
+        settled_is s u.fit r u.set x (r.ask n) h.ready (late s r u n x h)
+        ∙ ap (λ (b : Bool). settled_of b (path_after s r x (r.ask n)).state.monitor r.settings) (normal s u.fit r u.set x (r.ask n) h.ready (late s r u n x h) m.was m.taken_is m.now)
 
   -- in any units one after the other
   pub in_order_all : (units n : ℕ) → 3 ≤ n → handed_from s r (path_at s r) (received_at s r) n units ≡ boxes r.box (number_at s r u n) (ended_from (made_at s r) n units)

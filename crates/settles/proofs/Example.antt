@@ -5,20 +5,15 @@ use mathlib.Core.Bool.{true, cond}
 use mathlib.Core.List.{[], ◌∷◌}
 use lib.Dec.{eqb}
 use lib.ListN.{replicate}
-use native.Mathlib.Omega.{arith}
-use Rattle.shape.specs.Fits.{Fits}
-use Rattle.shape.specs.declared.Shape.{Shape}
+use Rattle.shape.specs.Shape.{Shape}
 use Rattle.shape.specs.declared.Adjustment.TheVariants.{Nothing, Increment}
 use Rattle.sink.specs.Sink.{fresh_sink}
 use Rattle.settles.specs.Demand.{Run, path_at, received_at, handed_at}
 use Rattle.settles.proofs.Opened.{opened}
 
 -- nine rows of two bytes, and a byte a step
-pub small_fits : Fits 1 18 17 2
-small_fits = record { some = omega arith; fills = refl; nine = refl; two = omega arith; ten = omega arith; low = omega arith }
-
 abbrev small : Shape
-small = record { step = 1; size = 18; top = 17; columns = 2; fits = small_fits }
+small = record { step = 1; size = 18; top = 17; columns = 2 }
 
 -- a source at 17 that goes up to 0 in the fifth unit, and a fresh sink
 abbrev run : Run

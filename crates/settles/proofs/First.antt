@@ -4,7 +4,7 @@ use mathlib.Core.Path.{◌≡◌, refl, sym, ap, ◌∙◌}
 use mathlib.Core.Bool.{true}
 use Prim.Native.Nat.{ℕ, zero, suc, ◌*◌, ◌≤◌}
 use lib.ListN.{length}
-use Rattle.shape.specs.declared.Shape.{Shape}
+use Rattle.shape.specs.Shape.{Shape, Fit}
 use Rattle.container_source.specs.declared.State.{State}
 use Rattle.container_source_theorems.specs.Run as sending
 use Rattle.overhead.specs.Labels.{fits}
@@ -23,7 +23,7 @@ unfolding sending.state_at
 later_is s m zero = refl
 later_is s m (suc k) = ap (λ (x : State). (sending.container_source_called s x (m.calls (suc k))).sent.state) (later_is s m k)
 
-module _ (noneBefore : ℕ) (s : Shape) (m : Making) (r : Run) (i : InRange s m r) (fine : Fine s r)
+module _ (noneBefore : ℕ) (s : Shape) (m : Making) (r : Run) (f : Fit s) (i : InRange s m r) (fine : Fine s r)
     (box-is : (k : ℕ) → r.box k ≡ sending.container_at s m.first m.calls k) (label : ℕ) (fitting : fits label r.settings.label ≡ true)
     (given : (k : ℕ) → Given s label r.settings (m.calls k)) (spaced : Spaced noneBefore r.ask)
   where
@@ -34,7 +34,7 @@ module _ (noneBefore : ℕ) (s : Shape) (m : Making) (r : Run) (i : InRange s m 
     first_good =
         record {
           fine = fine;
-          under_way = ap length (box-is 0) ∙ made_full s m label r.settings i.first_in fitting fine.settings_fine given 0;
+          under_way = ap length (box-is 0) ∙ made_full s f m label r.settings i.first_in fitting fine.settings_fine given 0;
           label = label;
           label_fits = fitting;
           given = λ k. given (suc k);
@@ -46,9 +46,9 @@ module _ (noneBefore : ℕ) (s : Shape) (m : Making) (r : Run) (i : InRange s m 
         let later-in : InRange s (later s m) r =
         record { state_in = i.state_in; total_low = i.total_low; whole = i.whole; source_in = i.source_in; first_in = made_low s m.first m.calls 1 i.first_in }
         in
-        let h = settles noneBefore s (later s m) r some steps later-in first_supplied first_good in
+        let h = settles noneBefore s (later s m) r some f steps later-in first_supplied first_good in
         record {
-          made_done = made_done s m label r.settings i.first_in fitting fine.settings_fine given;
+          made_done = made_done s f m label r.settings i.first_in fitting fine.settings_fine given;
           sent_done = h.sent_done;
           fed_done = h.fed_done;
           few = h.few;

@@ -3,8 +3,7 @@
 use mathlib.Core.Path.{◌≡◌, refl, sym, ap, subst, ◌∙◌}
 use mathlib.Core.List.{List}
 use Prim.Native.Nat.{ℕ, zero, suc, ◌+◌}
-use Rattle.shape.specs.Shape.{au4}
-use Rattle.shape.specs.declared.Shape.{Shape}
+use Rattle.shape.specs.Shape.{Shape, au4}
 use Rattle.container_source.specs.Source as container-source
 use Rattle.container_source.specs.declared.State.{State}
 use Rattle.container_source_theorems.specs.Run as sending

@@ -13,8 +13,7 @@ use Rattle.settings.specs.Faults.{settings_faults}
 use Rattle.std.specs.Prelude.{Ok}
 use Rattle.refusals.specs.Refusals.{answer_of}
 use Rattle.refusals.proofs.Wrong.{outcome_by, none_done}
-use Rattle.shape.specs.Shape.{unit_length}
-use Rattle.shape.specs.declared.Shape.{Shape}
+use Rattle.shape.specs.Shape.{Shape, Fit, unit_length}
 use Rattle.pointer_state.specs.State.{is_normal, offset_of}
 use Rattle.pointer.specs.declared.AfterWord.{AfterWord}
 use Rattle.cut.specs.declared.Cut.{Cut}
@@ -101,7 +100,7 @@ call_done s state c o fine u h d =
     (sink_out_of_range s state) refl o (answer_of (settings_faults c.settings)) refl (none_done (settings_faults c.settings) fine) _ refl u both)
 
 -- it leaves both buffers as long as they were
-module _ (s : Shape) (state : State) (c : SinkCall) (d : (sink_called s state c).received.answer ≡ Ok tt) where
+module _ (s : Shape) (f : Fit s) (state : State) (c : SinkCall) (d : (sink_called s state c).received.answer ≡ Ok tt) where
   abbrev a : AfterWord
   a = pointed s state.pointer c.unit
 
@@ -110,13 +109,13 @@ module _ (s : Shape) (state : State) (c : SinkCall) (d : (sink_called s state c)
   unfolding unit_outcome received_normal
   lengths true n =
       let k = begin_in s a.taken (offset_of a.pointer.state) state.held in
-      let r = can s state c d n in
+      let r = can s f state c d n in
       rw n
       (held_length s k.kept k.from c.unit c.held c.done r.line r.sizes, done_length s k.kept k.from c.unit c.held c.done r.line r.sizes)
-  lengths false n = rw n ((is_fed s state c d).held_is, (is_fed s state c d).done_is)
+  lengths false n = rw n ((is_fed s f state c d).held_is, (is_fed s f state c d).done_is)
 
   pub call_held : length (sink_called s state c).held ≡ s.size
-  call_held = ap (λ (o : ReceivedOutcome). length o.held) (called_is s state c d) ∙ (lengths (is_normal a.pointer.state) refl).0
+  call_held = ap (λ (o : ReceivedOutcome). length o.held) (called_is s f state c d) ∙ (lengths (is_normal a.pointer.state) refl).0
 
   pub call_buffer : length (sink_called s state c).done ≡ s.size
-  call_buffer = ap (λ (o : ReceivedOutcome). length o.done) (called_is s state c d) ∙ (lengths (is_normal a.pointer.state) refl).1
+  call_buffer = ap (λ (o : ReceivedOutcome). length o.done) (called_is s f state c d) ∙ (lengths (is_normal a.pointer.state) refl).1

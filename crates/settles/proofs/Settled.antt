@@ -8,8 +8,8 @@ use native.Mathlib.Omega.{arith}
 use lib.Dec.{leb}
 use lib.ListN.{replicate}
 use borrow.Author.Tests.{leb-true, leb-false}
-use Rattle.shape.specs.Shape.{au4, tu3}
-use Rattle.shape.specs.declared.Shape.{Shape}
+use Rattle.shape.specs.Shape.{Shape, Fit, au4, tu3}
+use Rattle.shape.proofs.Offsets.{au4_fit, tu3_fit}
 use Rattle.container_source.specs.Source as container-source
 use Rattle.settings.proofs.Refuses.{fine_label, fine_trace}
 use Rattle.overhead.specs.Violations.{kept_of}
@@ -116,7 +116,7 @@ module _ (s : Shape) (r : Run) (u : Runs s r) (label place end : ℕ) (g : Setti
       pub free_then : none_stands (fed_at s r n).received.defects ≡ true
       unfolding path_at
       free_then =
-          ap none_stands (defects_is s r u.set (path_at s r n) (r.ask n) (along s r u n).ready (late s r u n (path_at s r n) (along s r u n)))
+          ap none_stands (defects_is s u.fit r u.set (path_at s r n) (r.ask n) (along s r u n).ready (late s r u n (path_at s r n) (along s r u n)))
           ∙ near_free label r.settings ((place + number_at s r u (suc n)) % 16) now.many (path_at s r (suc n)).state.monitor (omega arith) all_watched now.near
 
       -- before it
@@ -173,15 +173,15 @@ pub record InRange (s : Shape) (m : Making) (r : Run) : Type 0 where
   pub source_in : sources.InRange s r.source
   pub first_in : m.first.place ≤ 15
 
-pub settles : (noneBefore : ℕ) (s : Shape) (m : Making) (r : Run) → five ≤ noneBefore → 64 * s.step ≤ s.size → InRange s m r → Supplied s m r → Good noneBefore s m r → Settles most s r (log_of s m r)
+pub settles : (noneBefore : ℕ) (s : Shape) (m : Making) (r : Run) → five ≤ noneBefore → Fit s → 64 * s.step ≤ s.size → InRange s m r → Supplied s m r → Good noneBefore s m r → Settles most s r (log_of s m r)
 unfolding path_at
-settles noneBefore s m r some steps i box-is g =
+settles noneBefore s m r some f steps i box-is g =
     let place = m.first.place + 15 in
     let fine = g.fine.settings_fine in
-    let made = made_done s m g.label r.settings i.first_in g.label_fits fine g.given in
-    let full = box_full s m g.label r.settings i.first_in g.label_fits fine g.given r.box box-is g.under_way in
-    let like = box_like s m g.label r.settings i.first_in g.label_fits fine g.given r.box box-is in
-    let chain = box_chained s m g.label r.settings i.first_in g.label_fits fine g.given r.box box-is in
+    let made = made_done s f m g.label r.settings i.first_in g.label_fits fine g.given in
+    let full = box_full s f m g.label r.settings i.first_in g.label_fits fine g.given r.box box-is g.under_way in
+    let like = box_like s f m g.label r.settings i.first_in g.label_fits fine g.given r.box box-is in
+    let chain = box_chained s f m g.label r.settings i.first_in g.label_fits fine g.given r.box box-is in
     let ready : Ready s r (path_at s r 0) =
     record {
       source_fine = record { offset_low = i.source_in.offset_low; wait_low = i.source_in.wait_low; full = full; unit_is = g.fine.unit_is };
@@ -192,7 +192,7 @@ settles noneBefore s m r some steps i box-is g =
       done_is = g.fine.done_is;
     }
     in
-    let u : Runs s r = record { set = fine; ready = ready; spaced = record { quiet = λ n l. g.spaced.quiet n (omega arith); apart = g.spaced.apart } } in
+    let u : Runs s r = record { fit = f; set = fine; ready = ready; spaced = record { quiet = λ n l. g.spaced.quiet n (omega arith); apart = g.spaced.apart } } in
     let e : Setting g.label r.settings = setting g.label r.settings g.label_fits (fine_label r.settings fine) (fine_trace r.settings fine) g.fine.trace_is in
     let settled : (n : ℕ) → most ≤ n → (fed_at s r n).received.settled ≡ true =
     λ n w. settled_then s r u g.label place (number_at s r u (suc n)) e (λ j l _. like j l) (λ j l _. chain j l) steps n w (omega arith)
@@ -212,10 +212,10 @@ settles noneBefore s m r some steps i box-is g =
 
 -- ---- and so from every state that calls can reach
 
-pub reached_in : (s : Shape) (m : Making) (r : Run) → Reached s m r → InRange s m r
-reached_in s m r h =
+pub reached_in : (s : Shape) (m : Making) (r : Run) → Fit s → Reached s m r → InRange s m r
+reached_in s m r f h =
     record {
-      state_in = rw h.state_is (reached_in_range s h.received);
+      state_in = rw h.state_is (reached_in_range s h.received f);
       total_low = rw h.state_is (reached_total s h.received);
       whole = rw h.state_is (reached_whole s h.received);
       source_in = rw h.source_is (sources.source_low s _ h.asked (record { offset_low = omega arith; wait_low = omega arith }));
@@ -223,13 +223,13 @@ reached_in s m r h =
     }
 
 -- for every shape that fits, with no adjustment in the first five units or more
-pub demand : (noneBefore : ℕ) (s : Shape) → five ≤ noneBefore → 64 * s.step ≤ s.size → Demand most noneBefore s
-demand noneBefore s some steps m r h = settles noneBefore s m r some steps (reached_in s m r h)
+pub demand : (noneBefore : ℕ) (s : Shape) → five ≤ noneBefore → Fit s → 64 * s.step ≤ s.size → Demand most noneBefore s
+demand noneBefore s some f steps m r h = settles noneBefore s m r some f steps (reached_in s m r f h)
 
 -- DEMAND 3
 pub demand_3 : Demand3
-demand_3 = demand eight au4 (omega arith) (omega arith)
+demand_3 = demand eight au4 (omega arith) au4_fit (omega arith)
 
 -- and the same of TU-3, counted in its own frames
 pub demand_3_of_tu3 : Demand most eight tu3
-demand_3_of_tu3 = demand eight tu3 (omega arith) (omega arith)
+demand_3_of_tu3 = demand eight tu3 (omega arith) tu3_fit (omega arith)

@@ -9,7 +9,7 @@ use lib.ListN.{length}
 use Rattle.settings.specs.Faults.{settings_faults}
 use Rattle.settings.proofs.Refuses.{fine_label, fine_trace, path_fine}
 use Rattle.std.specs.Prelude.{Ok}
-use Rattle.shape.specs.declared.Shape.{Shape}
+use Rattle.shape.specs.Shape.{Shape, Fit}
 use Rattle.container_source.specs.declared.State.{State}
 use Rattle.container_source_theorems.specs.Run.{state_at, outcome_at, container_at}
 use Rattle.container_source_theorems.proofs.Refused.{sendable_source}
@@ -25,7 +25,7 @@ use Rattle.settles.specs.Demand.{Making, Given}
 use Rattle.settles.proofs.Sources.{made_low}
 use Rattle.settles.proofs.Watched.{Sent, Chained}
 
-module _ (s : Shape) (m : Making) (label : ℕ) (e : Settings) (low : m.first.place ≤ 15)
+module _ (s : Shape) (f : Fit s) (m : Making) (label : ℕ) (e : Settings) (low : m.first.place ≤ 15)
     (fitting : fits label e.label ≡ true) (fine : settings_faults e ≡ []) (given : (k : ℕ) → Given s label e (m.calls k))
   where
     abbrev state : ℕ → State
@@ -45,7 +45,7 @@ module _ (s : Shape) (m : Making) (label : ℕ) (e : Settings) (low : m.first.pl
         })
 
     pub made_full : (k : ℕ) → length (container_at s m.first m.calls k) ≡ s.size
-    made_full k = let c = m.calls k in length_sent s (state k) c.given c.trace c.payload c.lent (made_done k)
+    made_full k = let c = m.calls k in length_sent s (state k) c.given c.trace c.payload c.lent f (made_done k)
 
     -- ---- of a run: container 0 is another's
 
@@ -59,14 +59,14 @@ module _ (s : Shape) (m : Making) (label : ℕ) (e : Settings) (low : m.first.pl
       box_like zero l = absurd (omega arith)
       box_like (suc k) l =
           let g = given k in
-          let at = place_at s m.first m.calls (suc k) (λ j _. made_done j) k (omega arith) in
+          let at = place_at s m.first m.calls (suc k) f (λ j _. made_done j) k (omega arith) in
           let due : (state k).place ≡ (m.first.place + 15 + suc k) % 16 = omega (arith, at) in
           rw (box-is k)
-          (subst (λ (i : ℕ). Like label e i (seen_in s.columns (container_at s m.first m.calls k))) due (sent_like s (state k) (m.calls k) (made_done k) label e g.label_is g.trace_is g.no_remote))
+          (subst (λ (i : ℕ). Like label e i (seen_in s.columns (container_at s m.first m.calls k))) due (sent_like s f (state k) (m.calls k) (made_done k) label e g.label_is g.trace_is g.no_remote))
 
       pub box_chained : (k : ℕ) → 0 < k → Chained s.columns label e box k
       unfolding state_at
       box_chained zero l = absurd (omega arith)
       box_chained (suc k) l =
           rw (box-is (suc k), box-is k)
-          (sent_b3 s (state (suc k)) (m.calls (suc k)) (made_done (suc k)) ∙ sym (sent_parity s (state k) (m.calls k) (made_done k)))
+          (sent_b3 s f (state (suc k)) (m.calls (suc k)) (made_done (suc k)) ∙ sym (sent_parity s f (state k) (m.calls k) (made_done k)))

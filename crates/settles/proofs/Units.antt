@@ -7,8 +7,7 @@ use lib.Dec.{ltb}
 use lib.ListN.{length, take}
 use Rattle.settings.specs.Faults.{settings_faults}
 use Rattle.std.specs.Prelude.{Ok}
-use Rattle.shape.specs.Shape.{place_of, held_count, offset_after, run_from, ended_by}
-use Rattle.shape.specs.declared.Shape.{Shape}
+use Rattle.shape.specs.Shape.{Shape, Fit, place_of, held_count, offset_after, run_from, ended_by}
 use Rattle.shape.specs.declared.Adjustment.{Adjustment}
 use Rattle.shape.specs.declared.Adjustment.TheVariants.{Nothing}
 use Rattle.unit_source.specs.Source as unit-source
@@ -57,7 +56,7 @@ pub record Ready (s : Shape) (r : Run) (x : Path) : Type 0 where
 abbrev pub Settable : Run → Type 0
 Settable r = settings_faults r.settings ≡ []
 
-module _ (s : Shape) (r : Run) (set : Settable r) (x : Path) (a : Adjustment) (h : Ready s r x) (late : (adjusts a && ltb x.source.state.wait 3) ≡ false) where
+module _ (s : Shape) (f : Fit s) (r : Run) (set : Settable r) (x : Path) (a : Adjustment) (h : Ready s r x) (late : (adjusts a && ltb x.source.state.wait 3) ≡ false) where
   abbrev v : ℕ
   v = x.source.state.offset
 
@@ -70,7 +69,7 @@ module _ (s : Shape) (r : Run) (set : Settable r) (x : Path) (a : Adjustment) (h
   -- ---- no call is refused
 
   pub sent_is : sent s r x a ≡ record { made = record { answer = Ok tt; ended = ended_by a v; state = unit-source.unit_source_after s a x.source.state }; unit = unit }
-  sent_is = spaced.call_done s r.box x.source a h.source_fine late
+  sent_is = spaced.call_done s f r.box x.source a h.source_fine late
 
   unit_is : (sent s r x a).unit ≡ unit
   unit_is = ap (λ (o : unit-source.MadeOutcome). o.unit) sent_is
@@ -78,7 +77,7 @@ module _ (s : Shape) (r : Run) (set : Settable r) (x : Path) (a : Adjustment) (h
   pub fed_done : (fed s r x a).received.answer ≡ Ok tt
   fed_done =
       call_done s x.state (feeding s r x a) h.state_in set
-      (ap length unit_is ∙ spaced.unit_long s r.box x.source a h.source_fine) h.held_is h.done_is
+      (ap length unit_is ∙ spaced.unit_long s f r.box x.source a h.source_fine) h.held_is h.done_is
 
   -- ---- both ends can be called again
 
@@ -90,12 +89,12 @@ module _ (s : Shape) (r : Run) (set : Settable r) (x : Path) (a : Adjustment) (h
   unfolding path_after
   ready_after =
       record {
-        source_fine = spaced.fine_after s r.box x.source a h.source_fine late;
-        state_in = call_in_range s (feeding s r x a) x.state h.state_in;
+        source_fine = spaced.fine_after s f r.box x.source a h.source_fine late;
+        state_in = call_in_range s (feeding s r x a) x.state f h.state_in;
         total_low = call_total s x.state (feeding s r x a) h.total_low;
         whole = call_whole s x.state (feeding s r x a) h.whole;
-        held_is = call_held s x.state (feeding s r x a) fed_done;
-        done_is = call_buffer s x.state (feeding s r x a) fed_done;
+        held_is = call_held s f x.state (feeding s r x a) fed_done;
+        done_is = call_buffer s f x.state (feeding s r x a) fed_done;
       }
 
   -- ---- what is told at the unit's end
@@ -106,7 +105,7 @@ module _ (s : Shape) (r : Run) (set : Settable r) (x : Path) (a : Adjustment) (h
 
   pointed_is : pointed s x.state.pointer (sent s r x a).unit ≡ t
   unfolding pointed
-  pointed_is = rw (unit_is, word_carried s a v (r.box i) (r.box (i + 1)))
+  pointed_is = rw (unit_is, word_carried s a v (r.box i) (r.box (i + 1)) f)
 
   -- what the unit leaves
   abbrev l : UnitOutcome
@@ -114,7 +113,7 @@ module _ (s : Shape) (r : Run) (set : Settable r) (x : Path) (a : Adjustment) (h
 
   fed_is : fed s r x a ≡ record { received = told t.pointer x.state.total l.after r.settings; held = l.held; done = l.done }
   fed_is =
-      called_is s x.state (feeding s r x a) fed_done
+      called_is s f x.state (feeding s r x a) fed_done
       ∙ ap₂ (λ (y : AfterWord) (u : List ℕ).
       let z = unit_outcome s x.state y r.settings u x.held x.done in
       record { received = told y.pointer x.state.total z.after r.settings; held = z.held; done = z.done })
@@ -173,7 +172,7 @@ module _ (s : Shape) (r : Run) (set : Settable r) (x : Path) (a : Adjustment) (h
 
     pub handed_after : reach.handed s (feeding s r x a) (fed s r x a) ≡ ended_of s k unit x.held
     handed_after =
-        handed_normal s x.state (feeding s r x a) fed_done (ap (λ (y : AfterWord). is_normal y.pointer.state) pointed_is ∙ n)
+        handed_normal s f x.state (feeding s r x a) fed_done (ap (λ (y : AfterWord). is_normal y.pointer.state) pointed_is ∙ n)
         ∙ ap₂ (λ (y : AfterWord) (u : List ℕ). ended_of s (cut_in s y.taken (offset_of y.pointer.state) x.state.held) u x.held) pointed_is unit_is
 
   -- ---- its word taken as it was meant, at the source's offset
@@ -198,14 +197,14 @@ module _ (s : Shape) (r : Run) (set : Settable r) (x : Path) (a : Adjustment) (h
     pub held_goes : take (held_count s (offset_after s.top a v)) (path_after s r x a).held ≡ take (held_count s (offset_after s.top a v)) (r.box (i + ended_by a v))
     held_goes =
         ap (take (held_count s (offset_after s.top a v))) (held_after normal ∙ ap (λ (c : Cut). held_of c unit x.held) cut_is)
-        ∙ goes_held s r.box h.source_fine.full a v i x.held h.source_fine.offset_low
+        ∙ goes_held s f r.box h.source_fine.full a v i x.held h.source_fine.offset_low
 
     -- and where it was before too, the unit hands back the containers that the source says ended
     module _ (together : take (held_count s v) x.held ≡ take (held_count s v) (r.box i)) where
       ended_is : ended_of s (k normal) unit x.held ≡ boxes r.box i (ended_by a v)
       ended_is =
           ap (λ (c : Cut). ended_of s c unit x.held) cut_is
-          ∙ goes_ended s r.box h.source_fine.full a v i x.held h.source_fine.offset_low together
+          ∙ goes_ended s f r.box h.source_fine.full a v i x.held h.source_fine.offset_low together
 
       pub handed_goes : reach.handed s (feeding s r x a) (fed s r x a) ≡ boxes r.box i (ended_by a v)
       handed_goes = handed_after normal ∙ ended_is
@@ -218,14 +217,14 @@ module _ (s : Shape) (r : Run) (set : Settable r) (x : Path) (a : Adjustment) (h
 
 -- ---- a unit with no adjustment, taken by rule 3 at the source's offset
 
-pub held_restarts : (s : Shape) (r : Run) (set : Settable r) (x : Path) (h : Ready s r x) (late : (adjusts Nothing && ltb x.source.state.wait 3) ≡ false)
+pub held_restarts : (s : Shape) (f : Fit s) (r : Run) (set : Settable r) (x : Path) (h : Ready s r x) (late : (adjusts Nothing && ltb x.source.state.wait 3) ≡ false)
     → (pointer_step x.state.pointer s.top (word_sent Nothing x.source.state.offset)).taken ≡ Resync x.source.state.offset
     → (pointer_step x.state.pointer s.top (word_sent Nothing x.source.state.offset)).pointer.state ≡ Normal x.source.state.offset
     → take (held_count s x.source.state.offset) (path_after s r x Nothing).held ≡ take (held_count s x.source.state.offset) (r.box (x.source.number + 1))
 unfolding begin_in from_in is_normal offset_of restarts
-held_restarts s r set x h late taken_is now =
+held_restarts s f r set x h late taken_is now =
     let v = x.source.state.offset in
-    let normal : is_normal (t s r set x Nothing h late).pointer.state ≡ true = rw now in
-    let cut_is : k s r set x Nothing h late normal ≡ cut_of s 0 (3 * s.step + place_of s v) = rw (taken_is, now) in
-    ap (take (held_count s v)) (held_after s r set x Nothing h late normal ∙ ap (λ (c : Cut). held_of c (unit s r set x Nothing h late) x.held) cut_is)
-    ∙ restart_held s r.box h.source_fine.full v x.source.number x.held h.source_fine.offset_low
+    let normal : is_normal (t s f r set x Nothing h late).pointer.state ≡ true = rw now in
+    let cut_is : k s f r set x Nothing h late normal ≡ cut_of s 0 (3 * s.step + place_of s v) = rw (taken_is, now) in
+    ap (take (held_count s v)) (held_after s f r set x Nothing h late normal ∙ ap (λ (c : Cut). held_of c (unit s f r set x Nothing h late) x.held) cut_is)
+    ∙ restart_held s f r.box h.source_fine.full v x.source.number x.held h.source_fine.offset_low

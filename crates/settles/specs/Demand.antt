@@ -7,8 +7,7 @@
 -- Units and containers are numbered from 0: unit n comes after n others. A row without end stands for its beginnings, so a run is of every length.
 use Rattle.std.specs.Prelude.{◌≡◌, ℕ, zero, suc, ◌+◌, ◌≤◌, ◌<◌, min, true, false, cond, List, [], ◌∷◌, ◌++◌, length, replicate, Ok}
 use Rattle.settings.specs.Faults.{settings_faults}
-use Rattle.shape.specs.Shape.{unit_length, au4}
-use Rattle.shape.specs.declared.Shape.{Shape}
+use Rattle.shape.specs.Shape.{Shape, unit_length, au4}
 use Rattle.shape.specs.declared.Adjustment.{Adjustment}
 use Rattle.shape.specs.declared.Adjustment.TheVariants.{Nothing}
 use Rattle.container.specs.Container.{payload_size}

@@ -1,7 +1,6 @@
 -- DEMAND 3 OF THE CODE: a host plays a run on the three functions, and knows of each call what the function's promise says and nothing else.
 use Rattle.std.specs.Prelude.{◌≡◌, ℕ, suc, ◌+◌}
-use Rattle.shape.specs.Shape.{au4}
-use Rattle.shape.specs.declared.Shape.{Shape}
+use Rattle.shape.specs.Shape.{Shape, au4}
 use Rattle.container_source.specs.Source.{Sends}
 use Rattle.unit_source.specs.Source.{Makes}
 use Rattle.sink.specs.Sink.{Receives}

@@ -9,8 +9,7 @@ use lib.Dec.{ltb, leb}
 use lib.ListN.{length, take, drop, length-drop, take-append-drop}
 use lib.Seq.{take_at, drop_at, drop-drop, take-append-le}
 use borrow.Author.Tests.{lt-ltb, le-leb, lt-leb}
-use Rattle.shape.specs.Shape.{unit_length}
-use Rattle.shape.specs.declared.Shape.{Shape}
+use Rattle.shape.specs.Shape.{Shape, unit_length}
 use Rattle.shape.proofs.Balance.{Balanced}
 use Rattle.cut.specs.Cut.{one_if, next_of, inside_of, begin_of, cut_of, completed_of, inside_part, ended_of}
 use Rattle.cut.specs.Inner.{Line}
@@ -113,15 +112,15 @@ module _ (s : Shape) (box : ℕ → List ℕ) (full : (i : ℕ) → length (box 
       → Balanced s n from k m
       → Chopped i k m (cut_of s n from) unit held
   unfolding run_of
-  chop i zero from zero m unit held l low h run t e = none_held i 0 m from unit held (none_ends i m from unit run (omega arith) (omega (arith, s.fits.some)))
+  chop i zero from zero m unit held l low h run t e = none_held i 0 m from unit held (none_ends i m from unit run (omega arith) (omega (arith, l.fit.some)))
   chop i zero from (suc zero) m unit held l low h run t e = none_held i 1 m from unit held (one_ends i m from unit run (omega arith))
-  chop i zero from (suc (suc k)) m unit held l low h run t e = absurd (omega (arith, s.fits.two, s.fits.some, l.behind))
-  chop i (suc n) from zero m unit held l low h run t e = absurd (omega (arith, s.fits.some, l.ends_within (omega arith)))
+  chop i zero from (suc (suc k)) m unit held l low h run t e = absurd (omega (arith, l.fit.two, l.fit.some, l.behind))
+  chop i (suc n) from zero m unit held l low h run t e = absurd (omega (arith, l.fit.some, l.ends_within (omega arith)))
   chop i (suc n) from (suc zero) m unit held l low h run t e =
       let next = next_is i (suc n) from unit l (omega arith) low run in
       some_held i (suc n) from unit l (omega arith) low run 0 m held t
-      (none_ends (i + 1) m (from + (s.size - suc n)) unit next (omega arith) (omega (arith, s.fits.some)))
+      (none_ends (i + 1) m (from + (s.size - suc n)) unit next (omega arith) (omega (arith, l.fit.some)))
   chop i (suc n) from (suc (suc zero)) m unit held l low h run t e =
       let next = next_is i (suc n) from unit l (omega arith) low run in
       some_held i (suc n) from unit l (omega arith) low run 1 m held t (one_ends (i + 1) m (from + (s.size - suc n)) unit next (omega arith))
-  chop i (suc n) from (suc (suc (suc k))) m unit held l low h run t e = absurd (omega (arith, s.fits.two, s.fits.some, l.behind))
+  chop i (suc n) from (suc (suc (suc k))) m unit held l low h run t e = absurd (omega (arith, l.fit.two, l.fit.some, l.behind))

@@ -3,7 +3,7 @@ use mathlib.Core.Path.{◌≡◌, refl}
 use mathlib.Core.Bool.{Bool, true, false, cond}
 use mathlib.Core.List.{List, ◌++◌}
 use Prim.Native.Nat.{ℕ}
-use Rattle.shape.specs.declared.Shape.{Shape}
+use Rattle.shape.specs.Shape.{Shape}
 use Rattle.cut.specs.Cut.{one_if, ended_count}
 use Rattle.cut.specs.declared.Cut.{Cut}
 use Rattle.monitor.specs.Monitoring.{seen_of}

@@ -8,8 +8,7 @@ use native.Mathlib.Nat.{add-zero, zero-add, suc-add}
 use native.Mathlib.Omega.{arith}
 use lib.ListN.{length, take, drop}
 use lib.Seq.{take_at, length-take-le}
-use Rattle.shape.specs.Shape.{unit_length, place_of, held_count, offset_after, run_from, ended_by}
-use Rattle.shape.specs.declared.Shape.{Shape}
+use Rattle.shape.specs.Shape.{Shape, Fit, unit_length, place_of, held_count, offset_after, run_from, ended_by}
 use Rattle.shape.specs.declared.Adjustment.{Adjustment}
 use Rattle.shape.specs.declared.Adjustment.TheVariants.{Nothing}
 use Rattle.shape.proofs.Offsets.{place_low, held_none, held_some, held_low, run_begins}
@@ -30,7 +29,7 @@ boxes_append box i (suc a) b =
     let e : i + suc a ≡ i + 1 + a = omega arith in
     rw (e, suc-add a b) (ap (λ (l : List (List ℕ)). box i ∷ l) (boxes_append box (i + 1) a b))
 
-module _ (s : Shape) (box : ℕ → List ℕ) (full : (i : ℕ) → length (box i) ≡ s.size) where
+module _ (s : Shape) (f : Fit s) (box : ℕ → List ℕ) (full : (i : ℕ) → length (box i) ≡ s.size) where
   -- the held buffer after a cut whose rest is the beginning of container i
   held_after : (c : Cut) (unit held : List ℕ) (i m : ℕ) → m ≤ s.size → drop c.begin unit ≡ take m (box i)
       → take m (held_of c unit held) ≡ take m (box i)
@@ -46,7 +45,7 @@ module _ (s : Shape) (box : ℕ → List ℕ) (full : (i : ℕ) → length (box 
       (cut_of s (held_count s v) (run_from s.step a)) (unit_sent s a v (box i) (box (i + 1))) held
   goes_chopped a v i held h t =
       chop s box full i (held_count s v) (run_from s.step a) (ended_by a v) (held_count s (offset_after s.top a v)) (unit_sent s a v (box i) (box (i + 1))) held
-      (line_goes s a v h) (held_low s v) (held_low s (offset_after s.top a v)) (unit_run s a v (box i) (box (i + 1))) t (balance s a v h)
+      (line_goes s a v f h) (held_low s v f) (held_low s (offset_after s.top a v) f) (unit_run s a v (box i) (box (i + 1)) f) t (balance s a v f h)
 
   -- What it hands back is what the source says ended.
   pub goes_ended : (a : Adjustment) (v i : ℕ) (held : List ℕ) → v ≤ s.top
@@ -62,7 +61,7 @@ module _ (s : Shape) (box : ℕ → List ℕ) (full : (i : ℕ) → length (box 
   goes_held a v i held h =
       let m = held_count s (offset_after s.top a v) in
       held_after (cut_of s (held_count s v) (run_from s.step a)) (unit_sent s a v (box i) (box (i + 1))) held (i + ended_by a v) m
-      (omega (arith, held_low s (offset_after s.top a v))) (goes_chopped a v i (box i) h refl).rest
+      (omega (arith, held_low s (offset_after s.top a v) f)) (goes_chopped a v i (box i) h refl).rest
 
   -- ---- a unit that starts anew
 
@@ -73,7 +72,7 @@ module _ (s : Shape) (box : ℕ → List ℕ) (full : (i : ℕ) → length (box 
   unfolding run_from
   next_begins v i h some =
       next_is s box full i (held_count s v) (3 * s.step) (unit_sent s Nothing v (box i) (box (i + 1)))
-      (line_goes s Nothing v h) some (held_low s v) (unit_run s Nothing v (box i) (box (i + 1)))
+      (line_goes s Nothing v f h) some (held_low s v f) (unit_run s Nothing v (box i) (box (i + 1)) f)
 
   -- Rule 3 at the source's offset, in a unit with no adjustment: from J1 on it is the next container's beginning.
   pub restart_held : (v i : ℕ) (held : List ℕ) → v ≤ s.top
@@ -83,15 +82,15 @@ module _ (s : Shape) (box : ℕ → List ℕ) (full : (i : ℕ) → length (box 
       let n = held_count s (suc v) in
       let place = place_of s (suc v) in
       let unit = unit_sent s Nothing (suc v) (box i) (box (i + 1)) in
-      let p = place_low s (suc v) h in
+      let p = place_low s (suc v) f h in
       let m = held_some s v in
       let j1 : 3 * s.step + (s.size - n) ≡ 3 * s.step + place = omega arith in
-      let run = rw j1 at (next_begins (suc v) i h (omega (arith, s.fits.some))) in
-      let begun = none_ends s box full (i + 1) n (3 * s.step + place) unit run (omega arith) (omega (arith, held_low s (suc v), s.fits.some)) in
+      let run = rw j1 at (next_begins (suc v) i h (omega (arith, f.some))) in
+      let begun = none_ends s box full (i + 1) n (3 * s.step + place) unit run (omega arith) (omega (arith, held_low s (suc v) f, f.some)) in
       let chopped = none_held s box full (i + 1) 0 n (3 * s.step + place) unit held begun in
       held_after (cut_of s 0 (3 * s.step + place)) unit held (i + 1) n (omega arith) (rw add-zero at chopped.rest)
 
 -- THE COUNT: one unit lacks at most a step of a container's bytes.
-pub unit_bytes : (s : Shape) → (a : Adjustment) (v : ℕ) → v ≤ s.top
+pub unit_bytes : (s : Shape) → Fit s → (a : Adjustment) (v : ℕ) → v ≤ s.top
     → held_count s v + s.size ≤ ended_by a v * s.size + held_count s (offset_after s.top a v) + s.step
-unit_bytes s a v h = omega (arith, balance s a v h, (run_begins s.step a).before)
+unit_bytes s f a v h = omega (arith, balance s a v f h, (run_begins s.step a).before)

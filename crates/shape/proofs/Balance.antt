@@ -8,8 +8,7 @@ use native.Mathlib.Omega.{arith}
 use lib.Dec.{eqb, ltb}
 use borrow.Author.Tests.{lt-ltb, ne_eqb, ltb-true, ltb-false}
 use Rattle.laws.proofs.Tests.{by_test}
-use Rattle.shape.specs.Shape.{unit_length, held_count, up_of, down_of, offset_after, run_from, ended_by}
-use Rattle.shape.specs.declared.Shape.{Shape}
+use Rattle.shape.specs.Shape.{Shape, Fit, unit_length, held_count, up_of, down_of, offset_after, run_from, ended_by}
 use Rattle.shape.specs.declared.Adjustment.{Adjustment}
 use Rattle.shape.specs.declared.Adjustment.TheVariants.{Nothing, Increment, Decrement}
 use Rattle.shape.proofs.Offsets.{place_low, top_some, held_none, held_some}
@@ -18,14 +17,14 @@ use Rattle.shape.proofs.Offsets.{place_low, top_some, held_none, held_some}
 abbrev pub Balanced : Shape → ℕ → ℕ → ℕ → ℕ → Type 0
 Balanced s n from k m = n + unit_length s ≡ from + (k * s.size + m)
 
-up_balance : (s : Shape) (v : ℕ) → v ≤ s.top → Balanced s (held_count s v) (4 * s.step) (cond (eqb v 0) 0 1) (held_count s (up_of s.top v))
+up_balance : (s : Shape) (v : ℕ) → Fit s → v ≤ s.top → Balanced s (held_count s v) (4 * s.step) (cond (eqb v 0) 0 1) (held_count s (up_of s.top v))
 unfolding up_of
-up_balance s zero h =
-    let t = top_some s in
+up_balance s zero f h =
+    let t = top_some s f in
     let low : ltb 0 s.top ≡ true = lt-ltb 0 s.top t in
-    simp low (omega (arith, held_none s, held_some s 0, mul-one s.step, s.fits.two))
-up_balance s (suc w) h =
-    let p = place_low s (suc w) h in
+    simp low (omega (arith, held_none s, held_some s 0, mul-one s.step, f.two))
+up_balance s (suc w) f h =
+    let p = place_low s (suc w) f h in
     let m = mul-suc s.step w in
     let n = held_some s w in
     let ne : eqb (suc w) 0 ≡ false = ne_eqb (suc w) 0 (λ e. omega arith) in
@@ -34,30 +33,30 @@ up_balance s (suc w) h =
     (λ e.
     let l = ltb-true (suc w) s.top e in
     let q : suc w + 1 ≡ suc (suc w) = omega arith in
-    rw q (omega (arith, place_low s (suc (suc w)) (omega arith), held_some s (suc w), mul-suc s.step (suc w))))
+    rw q (omega (arith, place_low s (suc (suc w)) f (omega arith), held_some s (suc w), mul-suc s.step (suc w))))
     (λ e.
     let l = ltb-false (suc w) s.top e in
     let at_top : suc w ≡ s.top = omega arith in
-    let full : s.step * suc w + s.step ≡ s.size = rw at_top (omega (arith, s.fits.fills)) in
+    let full : s.step * suc w + s.step ≡ s.size = rw at_top (omega (arith, f.fills)) in
     omega (arith, held_none s)))
 
-down_balance : (s : Shape) (v : ℕ) → v ≤ s.top → Balanced s (held_count s v) (2 * s.step) (cond (eqb v 1) 2 1) (held_count s (down_of s.top v))
+down_balance : (s : Shape) (v : ℕ) → Fit s → v ≤ s.top → Balanced s (held_count s v) (2 * s.step) (cond (eqb v 1) 2 1) (held_count s (down_of s.top v))
 unfolding down_of
-down_balance s zero h = go s.top s.fits.fills (top_some s)
+down_balance s zero f h = go s.top f.fills (top_some s f)
   where
     go : (t : ℕ) → s.size ≡ s.step * (t + 1) → 1 ≤ t → Balanced s (held_count s 0) (2 * s.step) 1 (held_count s t)
     go zero e k = absurd (omega arith)
-    go (suc t) e k = omega (arith, held_none s, held_some s t, e, s.fits.two)
-down_balance s (suc zero) h = omega (arith, held_none s, held_some s 0, mul-one s.step, s.fits.two)
-down_balance s (suc (suc w)) h =
+    go (suc t) e k = omega (arith, held_none s, held_some s t, e, f.two)
+down_balance s (suc zero) f h = omega (arith, held_none s, held_some s 0, mul-one s.step, f.two)
+down_balance s (suc (suc w)) f h =
     let not-zero : eqb (suc (suc w)) 0 ≡ false = ne_eqb (suc (suc w)) 0 (λ e. omega arith) in
     let above : eqb (suc (suc w)) 1 ≡ false = ne_eqb (suc (suc w)) 1 (λ e. omega arith) in
     let less : suc (suc w) - 1 ≡ suc w = omega arith in
-    let p = place_low s (suc (suc w)) h in
+    let p = place_low s (suc (suc w)) f h in
     simp (not-zero, less, above) (omega (arith, mul-suc s.step (suc w), held_some s (suc w), held_some s w))
 
-pub balance : (s : Shape) (a : Adjustment) (v : ℕ) → v ≤ s.top → Balanced s (held_count s v) (run_from s.step a) (ended_by a v) (held_count s (offset_after s.top a v))
+pub balance : (s : Shape) (a : Adjustment) (v : ℕ) → Fit s → v ≤ s.top → Balanced s (held_count s v) (run_from s.step a) (ended_by a v) (held_count s (offset_after s.top a v))
 unfolding run_from ended_by offset_after
-balance s Nothing v h = omega arith
-balance s Increment v h = up_balance s v h
-balance s Decrement v h = down_balance s v h
+balance s Nothing v f h = omega arith
+balance s Increment v f h = up_balance s v f h
+balance s Decrement v f h = down_balance s v f h

@@ -6,31 +6,31 @@ use native.Mathlib.Omega.{arith}
 use lib.Dec.{eqb, ltb}
 use borrow.Author.Tests.{ltb-true, ne_eqb}
 use Rattle.laws.proofs.Tests.{by_test}
-use Rattle.shape.specs.Shape.{au4, tu3, Fit, place_of, held_count, up_of, down_of, offset_after, run_from}
-use Rattle.shape.specs.declared.Shape.{Shape}
+use Rattle.shape.specs.Numbers.{au4_fits}
+use Rattle.shape.specs.Shape.{Shape, au4, tu3, Fit, place_of, held_count, up_of, down_of, offset_after, run_from}
 use Rattle.shape.specs.declared.Adjustment.{Adjustment}
 use Rattle.shape.specs.declared.Adjustment.TheVariants.{Nothing, Increment, Decrement}
 
 pub au4_fit : Fit au4
-au4_fit = au4.fits
+au4_fit = au4_fits
 
 pub tu3_fit : Fit tu3
-tu3_fit = tu3.fits
+tu3_fit = record { some = omega arith; fills = refl; nine = refl; two = omega arith; ten = omega arith; low = omega arith }
 
 -- ---- places
 
 -- a value in range has its place a step or more before the container's end
-pub place_low : (s : Shape) (v : ℕ) → v ≤ s.top → place_of s v + s.step ≤ s.size
-place_low s v h =
+pub place_low : (s : Shape) (v : ℕ) → Fit s → v ≤ s.top → place_of s v + s.step ≤ s.size
+place_low s v f h =
     let m : s.step * (v + 1) ≤ s.step * (s.top + 1) = mul-le-mul_left s.step (omega arith) in
-    omega (arith, s.fits.fills)
+    omega (arith, f.fills)
 
 -- there is more than one value
-pub top_some : (s : Shape) → 0 < s.top
-top_some s = go s.top s.fits.fills
+pub top_some : (s : Shape) → Fit s → 0 < s.top
+top_some s f = go s.top f.fills
   where
     go : (t : ℕ) → s.size ≡ s.step * (t + 1) → 0 < t
-    go zero e = absurd (omega (arith, s.fits.two, s.fits.some, mul-one s.step, e))
+    go zero e = absurd (omega (arith, f.two, f.some, mul-one s.step, e))
     go (suc t) e = omega arith
 
 -- ---- the bytes of the container under way
@@ -44,9 +44,9 @@ unfolding held_count
 held_some s v = simp (ne_eqb (suc v) 0 (λ e. omega arith))
 
 -- at least a step of the container is still to come
-pub held_low : (s : Shape) (v : ℕ) → held_count s v + s.step ≤ s.size
-held_low s zero = omega (arith, held_none s, s.fits.two)
-held_low s (suc v) = omega (arith, held_some s v, mul-suc s.step v, s.fits.two)
+pub held_low : (s : Shape) (v : ℕ) → Fit s → held_count s v + s.step ≤ s.size
+held_low s zero f = omega (arith, held_none s, f.two)
+held_low s (suc v) f = omega (arith, held_some s v, mul-suc s.step v, f.two)
 
 -- ---- adjustments
 

@@ -1,2 +1,2 @@
-pub mod Fits
+pub mod Numbers
 pub mod Shape

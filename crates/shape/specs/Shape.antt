@@ -1,22 +1,32 @@
 -- The shape of a unit and of the containers in it, and what an adjustment does to them: 01, "Layouts" and "Reading one pointer word".
 -- AU-4 with its VC-4 is one shape; TU-3 with its VC-3 is another of the same form.
-use Rattle.std.specs.Prelude.{ℕ, ◌+◌, ◌-◌, ◌*◌, cond, eqb, ltb}
-use Rattle.shape.specs.Fits.{Fits, au4_fits, tu3_fits}
-use Rattle.shape.specs.declared.Shape.{Shape}
+use Rattle.std.specs.Prelude.{◌≡◌, ℕ, ◌+◌, ◌-◌, ◌*◌, ◌≤◌, ◌<◌, cond, eqb, ltb}
 use Rattle.shape.specs.declared.Adjustment.{Adjustment}
 use Rattle.shape.specs.declared.Adjustment.TheVariants.{Nothing, Increment, Decrement}
 
+-- A shape: any four numbers. Those of a `shape::Shape` (`numbers`, in Numbers.antt) fit each other.
+pub record Shape : Type 0 where
+  pub step : ℕ
+  pub size : ℕ
+  pub top : ℕ
+  pub columns : ℕ
+
 -- "a container (VC-4) is 9 rows of 261 bytes, 2349 in all"; "value 0 to 782; J1 stands at offset 3 times the value"
 abbrev pub au4 : Shape
-au4 = record { step = 3; size = 2349; top = 782; columns = 261; fits = au4_fits }
+au4 = record { step = 3; size = 2349; top = 782; columns = 261 }
 
 -- a VC-3, "85 columns by 9, 765 bytes", in a TU-3, where "the value runs 0 to 764 counting single bytes": no function takes it yet, and the theorems hold of it too
 abbrev pub tu3 : Shape
-tu3 = record { step = 1; size = 765; top = 764; columns = 85; fits = tu3_fits }
+tu3 = record { step = 1; size = 765; top = 764; columns = 85 }
 
--- A shape's numbers fit each other: every shape has the proof with it.
-abbrev pub Fit : Shape → Type 0
-Fit s = Fits s.step s.size s.top s.columns
+-- A shape that fits: its values, a step of bytes each, fill the container, and so do its nine rows. There is more than one value, and a value has ten bits.
+pub record Fit (s : Shape) : Type 0 where
+  pub some : 1 ≤ s.step
+  pub fills : s.size ≡ s.step * (s.top + 1)
+  pub nine : s.size ≡ 9 * s.columns
+  pub two : 2 * s.step ≤ s.size
+  pub ten : s.top < 1024
+  pub low : s.size < 4294967296
 
 -- ---- places
 

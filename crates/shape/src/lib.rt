@@ -3,7 +3,7 @@
 #![tactic(auto)]
 
 ghost use Rattle.std.specs.Prelude.{◌≡◌, ◌-◌, ◌*◌, ◌≤◌};
-ghost use Rattle.shape.specs.Fits.{Fits};
+ghost use Rattle.shape.specs.Shape.{Fit};
 
 // A unit is a header of three groups of `step` bytes, then `size` bytes; its pointer's values run from 0 to `top`. A container is nine rows of `columns` bytes.
 #[derive(Clone, Copy)]
@@ -12,7 +12,7 @@ pub struct Shape {
     pub size: usize,
     pub top: u16,
     pub columns: usize,
-    pub ghost fits: { Fits step size top columns },
+    pub ghost fits: { Fit (record { step = step; size = size; top = top; columns = columns }) },
 }
 
 // What a unit does to the offset: what a source is asked for, and what a sink reads in the word.
@@ -24,11 +24,12 @@ pub enum Adjustment {
 }
 
 impl Shape {
-    ghost use Rattle.shape.specs.Shape.{au4, unit_length, place_of, held_count, run_from};
+    ghost use Rattle.shape.specs.Shape.{unit_length, place_of, held_count, run_from};
+    ghost use Rattle.shape.specs.Numbers.{numbers, au4_shape};
 
     // AU-4 with its VC-4.
     pub fn au4() -> Shape
-        ensures { result ≡ au4 }
+        ensures { result ≡ au4_shape }
     {
         Shape {
             step: 3,
@@ -40,7 +41,7 @@ impl Shape {
 
     // The bytes of a unit.
     pub fn unit_length(self) -> usize
-        ensures { result ≡ unit_length self }
+        ensures { result ≡ unit_length (numbers self) }
     {
         3 * self.step + self.size
     }
@@ -57,7 +58,7 @@ impl Shape {
     #[tactic(auto, using(crate::proofs::Offsets::place_low))]
     pub fn place(self, offset: u16) -> usize
         requires { offset ≤ self.top }
-        ensures { (result ≡ place_of self offset) × (result ≤ self.size) }
+        ensures { (result ≡ place_of (numbers self) offset) × (result ≤ self.size) }
     {
         self.step * usize::from(offset)
     }
@@ -66,7 +67,7 @@ impl Shape {
     #[tactic(auto, unfolding(crate::specs::Shape::held_count))]
     pub fn held_count(self, offset: u16) -> usize
         requires { offset ≤ self.top }
-        ensures { result ≡ held_count self offset }
+        ensures { result ≡ held_count (numbers self) offset }
     {
         if offset == 0 {
             return 0;

@@ -10,7 +10,7 @@ use Rattle.refusals.specs.Refusals.{answer_says, answer_of}
 use Rattle.refusals.specs.declared.Refusal.{Refusal}
 use Rattle.std.specs.Prelude.{Result, Ok, Err, ⊤}
 use Rattle.refusals.proofs.Wrong.{outcome_done, outcome_refused, outcome_said}
-use Rattle.shape.specs.declared.Shape.{Shape}
+use Rattle.shape.specs.Shape.{Shape, Fit}
 use Rattle.pointer_rules.specs.Rules.{restarts, adjustment_of}
 use Rattle.pointer_state.specs.declared.State as reading
 use Rattle.pointer_state.specs.declared.State.TheVariants.{Normal, Alarm, Lost}
@@ -56,9 +56,9 @@ module _ (s : Shape) (state : State) (a : AfterWord) (unit held done : List ℕ)
   line_by : (b : Bool) → restarts a.taken ≡ b
       → Line s (cond b 0 state.held) (from_in s b (adjustment_of a.taken) (offset_of a.pointer.state))
   unfolding from_in
-  line_by true h = line_restarts s (offset_of a.pointer.state) offset_is_low
+  line_by true h = line_restarts s (offset_of a.pointer.state) p.fit offset_is_low
   line_by false h =
-      rw in_range.held_is (line_goes s (adjustment_of a.taken) (offset_of state.pointer.state) (offset_low s.top state.pointer in_range.pointer_in))
+      rw in_range.held_is (line_goes s (adjustment_of a.taken) (offset_of state.pointer.state) p.fit (offset_low s.top state.pointer in_range.pointer_in))
 
   pub receivable : (offset : ℕ) (n : Bool) → offset ≡ offset_of a.pointer.state → n ≡ is_normal a.pointer.state → n ≡ true
       → Receivable s a.taken offset state.held unit held done
@@ -124,12 +124,12 @@ module _ (s : Shape) (state : State) (e : Settings) (unit held done : List ℕ)
     feed_fine h = fed s state e (length unit) (length held) (length done) (sym r-is ∙ h)
 
     -- so that its word is there
-    pub word_there : r ≡ Ok tt → s.step < length unit
-    word_there h = omega (arith, (feed_fine h).unit_is, s.fits.some, s.fits.two)
+    pub word_there : Fit s → r ≡ Ok tt → s.step < length unit
+    word_there f h = omega (arith, (feed_fine h).unit_is, f.some, f.two)
 
     module _ (h : r ≡ Ok tt) (a : AfterWord) (a-is : a ≡ pointed s state.pointer unit) where
-      pub feed_pointed : Pointed s state a unit held done
-      feed_pointed = record { fed = feed_fine h; after_is = a-is }
+      pub feed_pointed : Fit s → Pointed s state a unit held done
+      feed_pointed f = record { fit = f; fed = feed_fine h; after_is = a-is }
 
       pub feed_done : (left : AfterUnit) (held' done' : List ℕ) (q : Received) → UnitOutcomeIs s state a e unit held done left held' done' → q ≡ told a.pointer state.total left e
           → ReceivesAs s state e unit held done q held' done'

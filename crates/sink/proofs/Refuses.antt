@@ -15,8 +15,7 @@ use Rattle.refusals.specs.declared.Refusal.TheVariants as wrong
 use Rattle.std.specs.Prelude.{Result, Ok, Err, ⊤}
 use Rattle.refusals.proofs.Wrong.{due_none, due_false, none_wrong, Numbered, numbered_row, numbered_both, numbered_last}
 use Rattle.refusals.proofs.Joined.{joined_refused, joined_done, joined_none}
-use Rattle.shape.specs.Shape.{unit_length, held_count}
-use Rattle.shape.specs.declared.Shape.{Shape}
+use Rattle.shape.specs.Shape.{Shape, unit_length, held_count}
 use Rattle.pointer_state.specs.State.{offset_of}
 use Rattle.pointer.specs.Machine as pointer
 use Rattle.pointer.proofs.Ranges.{offset_low}

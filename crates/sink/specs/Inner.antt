@@ -1,8 +1,7 @@
 -- What the parts of a call are given, and what they leave, where the code goes through them one after the other. No rule of 01 stands here, and no promise cites this file.
 use Rattle.std.specs.Prelude.{◌≡◌, ℕ, false, List, length}
 use Rattle.settings.specs.declared.Settings.{Settings}
-use Rattle.shape.specs.Shape.{unit_length}
-use Rattle.shape.specs.declared.Shape.{Shape}
+use Rattle.shape.specs.Shape.{Shape, Fit, unit_length}
 use Rattle.pointer.specs.declared.AfterWord.{AfterWord}
 use Rattle.receiving.specs.Receiving.{UnitOutcome}
 use Rattle.receiving.specs.declared.AfterUnit.{AfterUnit}
@@ -18,6 +17,7 @@ pub record Fed (s : Shape) (state : State) (unit held done : ℕ) : Type 0 where
 
 -- one whose word was read
 pub record Pointed (s : Shape) (state : State) (a : AfterWord) (unit held done : List ℕ) : Type 0 where
+  pub fit : Fit s
   pub fed : Fed s state (length unit) (length held) (length done)
   pub after_is : a ≡ pointed s state.pointer unit
 

@@ -7,8 +7,7 @@ use Rattle.settings.specs.Faults.{settings_faults}
 use Rattle.refusals.specs.Refusals.{Fault, answer_says, given, said_by, outcome}
 use Rattle.refusals.specs.declared.Refusal.{Refusal}
 use Rattle.refusals.specs.declared.Refusal.TheVariants as wrong
-use Rattle.shape.specs.Shape.{unit_length, held_count}
-use Rattle.shape.specs.declared.Shape.{Shape}
+use Rattle.shape.specs.Shape.{Shape, unit_length, held_count}
 use Rattle.pointer_state.specs.State.{is_alarm, is_lost, is_normal, offset_of}
 use Rattle.pointer.specs.Machine as pointer
 use Rattle.pointer.specs.declared.Pointer.{Pointer}

@@ -4,6 +4,7 @@
 
 ghost use Rattle.std.specs.Prelude.{◌≡◌, ◌<◌, length, Ok};
 ghost use Rattle.shape.specs.Shape.{au4};
+ghost use Rattle.shape.specs.Numbers.{numbers};
 ghost use Rattle.refusals.specs.Refusals.{answer_of};
 ghost use Rattle.sink.specs.Sink.{fresh_sink, sink_out_of_range, sink_faults, pointed, told, received_by, ReceivesAs, Receives};
 ghost use Rattle.sink.specs.Inner.{Pointed, UnitOutcomeIs};
@@ -48,7 +49,7 @@ pub fn fresh() -> State
 }
 
 fn out_of_range(shape: Shape, s: State) -> bool
-    ensures { result ≡ sink_out_of_range shape s }
+    ensures { result ≡ sink_out_of_range (numbers shape) s }
 {
     let p = s.pointer;
     let m = s.monitor;
@@ -72,7 +73,7 @@ fn answer(
     held: usize,
     done: usize,
 ) -> Result<(), Refusal>
-    ensures { result ≡ answer_of (sink_faults shape s e unit held done) }
+    ensures { result ≡ answer_of (sink_faults (numbers shape) s e unit held done) }
 {
     if out_of_range(shape, s) {
         return Err(Refusal::State);
@@ -90,7 +91,7 @@ fn answer(
 // The unit's word, read: how it is taken, and the pointer after it.
 fn point(shape: Shape, p: Pointer, unit: &[u8]) -> AfterWord
     requires { shape.step < length unit.now }
-    ensures { result ≡ pointed shape p unit.now }
+    ensures { result ≡ pointed (numbers shape) p unit.now }
 {
     let second = shape.step;
     let w = word::of(unit[0], unit[second]);
@@ -107,8 +108,8 @@ fn take_unit(
     held: &mut [u8],
     done: &mut [u8],
 ) -> AfterUnit
-    requires { Pointed shape s a unit.now held.old done.old }
-    ensures { UnitOutcomeIs shape s a e unit.now held.old done.old result held.new done.new }
+    requires { Pointed (numbers shape) s a unit.now held.old done.old }
+    ensures { UnitOutcomeIs (numbers shape) s a e unit.now held.old done.old result held.new done.new }
 {
     let p = a.pointer;
     let state = p.state;
@@ -166,7 +167,7 @@ fn feed(
     held: &mut [u8],
     done: &mut [u8],
 ) -> Result<Report, Refusal>
-    ensures { ReceivesAs shape s.old e unit.now held.old done.old (received_by result s.new) held.new done.new }
+    ensures { ReceivesAs (numbers shape) s.old e unit.now held.old done.old (received_by result s.new) held.new done.new }
 {
     let before = *s;
     answer(shape, before, e, unit.len(), held.len(), done.len())?;

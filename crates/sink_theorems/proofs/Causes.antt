@@ -3,7 +3,7 @@ use mathlib.Core.Path.{◌≡◌, refl}
 use mathlib.Core.Bool.{true, false, false≢true}
 use mathlib.Core.List.{◌∷◌}
 use Rattle.refusals.proofs.Wrong.{outcome_by}
-use Rattle.shape.specs.declared.Shape.{Shape}
+use Rattle.shape.specs.Shape.{Shape}
 use Rattle.pointer_state.specs.declared.State as reading
 use Rattle.pointer_state.specs.declared.State.TheVariants.{Normal, Alarm, Lost}
 use Rattle.pointer_state.specs.State.{is_normal, is_alarm, is_lost}

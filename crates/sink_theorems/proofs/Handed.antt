@@ -7,7 +7,7 @@ use lib.ListN.{length}
 use Rattle.refusals.specs.declared.Refusal.{Refusal}
 use Rattle.std.specs.Prelude.{Ok, Err}
 use Rattle.refusals.proofs.Wrong.{outcome_done, outcome_by}
-use Rattle.shape.specs.declared.Shape.{Shape}
+use Rattle.shape.specs.Shape.{Shape, Fit}
 use Rattle.pointer_state.specs.State.{is_normal, offset_of}
 use Rattle.pointer.specs.declared.AfterWord.{AfterWord}
 use Rattle.cut.specs.Cut.{completed_of, inside_part, one_if, ended_of, done_of}
@@ -44,7 +44,7 @@ second_part s k unit false h = refl
 
 -- ---- a call that is done
 
-module _ (s : Shape) (state : State) (c : SinkCall) (d : (sink_called s state c).received.answer ≡ Ok tt) where
+module _ (s : Shape) (f : Fit s) (state : State) (c : SinkCall) (d : (sink_called s state c).received.answer ≡ Ok tt) where
   abbrev a : AfterWord
   a = pointed s state.pointer c.unit
 
@@ -67,7 +67,7 @@ module _ (s : Shape) (state : State) (c : SinkCall) (d : (sink_called s state c)
     k = cut_in s a.taken (offset_of a.pointer.state) state.held
 
     pub can : Receivable s a.taken (offset_of a.pointer.state) state.held c.unit c.held c.done
-    can = receivable s state a c.unit c.held c.done (record { fed = is_fed; after_is = refl }) (offset_of a.pointer.state) true refl (sym n) refl
+    can = receivable s state a c.unit c.held c.done (record { fit = f; fed = is_fed; after_is = refl }) (offset_of a.pointer.state) true refl (sym n) refl
 
     -- WHAT IS HANDED BACK IS WHAT ENDED: in this order, each in its place
     pub handed_normal : handed s c (sink_called s state c) ≡ ended_of s k c.unit c.held

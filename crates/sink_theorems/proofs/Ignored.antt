@@ -9,8 +9,7 @@ use lib.ListN.{length, get_or, take, drop}
 use lib.Seq.{drop-drop}
 use Rattle.laws.proofs.Tests.{by_test}
 use Rattle.refusals.proofs.Wrong.{outcome_by}
-use Rattle.shape.specs.Shape.{au4, run_from}
-use Rattle.shape.specs.declared.Shape.{Shape}
+use Rattle.shape.specs.Shape.{Shape, au4, run_from}
 use Rattle.shape.specs.declared.Adjustment.{Adjustment}
 use Rattle.shape.specs.declared.Adjustment.TheVariants as adjusts
 use Rattle.shape.proofs.Offsets.{run_begins}

@@ -9,8 +9,7 @@ use Rattle.laws.proofs.Tests.{by_test}
 use Rattle.refusals.proofs.Wrong.{outcome_by}
 use Rattle.refusals.specs.declared.Refusal.TheVariants as wrong
 use Rattle.std.specs.Prelude.{Err}
-use Rattle.shape.specs.Shape.{held_count}
-use Rattle.shape.specs.declared.Shape.{Shape}
+use Rattle.shape.specs.Shape.{Shape, Fit, held_count}
 use Rattle.shape.proofs.Offsets.{held_none}
 use Rattle.pointer_rules.specs.Rules.{restarts, adjustment_of}
 use Rattle.pointer_rules.specs.declared.Taken.{Taken}
@@ -59,7 +58,7 @@ held_silent s (Normal v) h = absurd (false≢true (sym h))
 held_silent s Alarm h = held_none s
 held_silent s Lost h = held_none s
 
-module _ (s : Shape) (state : State) (r : Ranged s state) (unit : List ℕ) where
+module _ (s : Shape) (f : Fit s) (state : State) (r : Ranged s state) (unit : List ℕ) where
   abbrev a : AfterWord
   a = pointed s state.pointer unit
 
@@ -75,10 +74,10 @@ module _ (s : Shape) (state : State) (r : Ranged s state) (unit : List ℕ) wher
   rest_by : (b : Bool) → restarts a.taken ≡ b → is_normal a.pointer.state ≡ true
       → (cut_of s (cond b 0 state.held) (from_in s b (adjustment_of a.taken) (offset_of a.pointer.state))).rest ≡ held_in s a.pointer
   unfolding from_in
-  rest_by true h n = rest_restarts s (offset_of a.pointer.state) (offset_low s.top a.pointer pointer_kept)
+  rest_by true h n = rest_restarts s (offset_of a.pointer.state) f (offset_low s.top a.pointer pointer_kept)
   rest_by false h n =
       rw (r.held_is, (goes h n).moved)
-      (rest_goes s (adjustment_of a.taken) (offset_of state.pointer.state) (offset_low s.top state.pointer r.pointer_in))
+      (rest_goes s (adjustment_of a.taken) (offset_of state.pointer.state) f (offset_low s.top state.pointer r.pointer_in))
 
   -- what a unit leaves is in range
   leaving_monitor : (e : Settings) (held done : List ℕ) → monitor.monitor_in_range (unit_outcome s state a e unit held done).after.monitor ≡ true
@@ -102,12 +101,12 @@ module _ (s : Shape) (state : State) (r : Ranged s state) (unit : List ℕ) wher
 
 -- ---- one call, refused or not
 
-pub call_in_range : (s : Shape) (c : SinkCall) (state : State) → sink_out_of_range s state ≡ false → sink_out_of_range s (sink_called s state c).received.state ≡ false
+pub call_in_range : (s : Shape) (c : SinkCall) (state : State) → Fit s → sink_out_of_range s state ≡ false → sink_out_of_range s (sink_called s state c).received.state ≡ false
 unfolding sink refusing
-call_in_range s c state h =
+call_in_range s c state f h =
     outcome_by (λ (o : ReceivedOutcome). sink_out_of_range s o.received.state ≡ false)
     (sink_faults s state c.settings (length c.unit) (length c.held) (length c.done))
-    (in_range s _ (told_kept s state (ranged s state h) c.unit c.settings c.held c.done))
+    (in_range s _ (told_kept s f state (ranged s state h) c.unit c.settings c.held c.done))
     (λ _. h)
 
 -- ---- any row of calls
@@ -116,15 +115,15 @@ fresh_in : (s : Shape) → sink_out_of_range s fresh_sink ≡ false
 unfolding fresh_sink offset_of pointer.fresh_pointer
 fresh_in s = in_range s fresh_sink (record { pointer_in = fresh_in_range s.top; monitor_in_lem = blank_range 0 (omega arith); held_is = sym (held_none s) })
 
-calls_in_range : (s : Shape) (state : State) (calls : List SinkCall) → sink_out_of_range s state ≡ false → sink_out_of_range s (after_calls s state calls) ≡ false
+calls_in_range : (s : Shape) (state : State) (calls : List SinkCall) → Fit s → sink_out_of_range s state ≡ false → sink_out_of_range s (after_calls s state calls) ≡ false
 unfolding after_calls
-calls_in_range s state [] h = h
-calls_in_range s state (c ∷ calls) h = calls_in_range s (sink_called s state c).received.state calls (call_in_range s c state h)
+calls_in_range s state [] f h = h
+calls_in_range s state (c ∷ calls) f h = calls_in_range s (sink_called s state c).received.state calls f (call_in_range s c state f h)
 
 -- EVERY STATE THAT CALLS CAN REACH IS IN RANGE, the held count included
-pub reached_in_range : (s : Shape) (calls : List SinkCall) → sink_out_of_range s (reached s calls) ≡ false
-reached_in_range s calls = calls_in_range s fresh_sink calls (fresh_in s)
+pub reached_in_range : (s : Shape) (calls : List SinkCall) → Fit s → sink_out_of_range s (reached s calls) ≡ false
+reached_in_range s calls f = calls_in_range s fresh_sink calls f (fresh_in s)
 
 -- and so no call of it is refused by 8
-pub reached_not_8 : (s : Shape) (calls : List SinkCall) (c : SinkCall) → (sink_called s (reached s calls) c).received.answer ≡ Err wrong.State → ⊥
-reached_not_8 s calls c h = not_8 s (reached s calls) c (reached_in_range s calls) h
+pub reached_not_8 : (s : Shape) (calls : List SinkCall) (c : SinkCall) → Fit s → (sink_called s (reached s calls) c).received.answer ≡ Err wrong.State → ⊥
+reached_not_8 s calls c f h = not_8 s (reached s calls) c (reached_in_range s calls f) h

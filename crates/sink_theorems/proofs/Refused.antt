@@ -14,8 +14,7 @@ use Rattle.refusals.specs.declared.Refusal.TheVariants as wrong
 use Rattle.std.specs.Prelude.{Result, Ok, Err, ⊤}
 use Rattle.refusals.proofs.Wrong.{outcome_by, outcome_answer}
 use Rattle.refusals.proofs.Joined.{joined_refused}
-use Rattle.shape.specs.Shape.{unit_length}
-use Rattle.shape.specs.declared.Shape.{Shape}
+use Rattle.shape.specs.Shape.{Shape, unit_length}
 use Rattle.sink.specs.Sink.{ReceivedOutcome, sink_out_of_range, sink_faults, told, refusing, sink}
 use Rattle.sink.specs.declared.State.{State}
 use Rattle.sink_theorems.specs.Reach.{SinkCall, sink_called}

@@ -1,6 +1,6 @@
 -- The states that calls of the sink can reach: from the fresh one, by any row of calls, refused ones, other settings, other units and buffers among them.
 use Rattle.std.specs.Prelude.{List, [], ◌∷◌, ℕ}
-use Rattle.shape.specs.declared.Shape.{Shape}
+use Rattle.shape.specs.Shape.{Shape}
 use Rattle.view.specs.View.{handed_back}
 use Rattle.settings.specs.declared.Settings.{Settings}
 use Rattle.sink.specs.Sink.{fresh_sink, ReceivedOutcome, sink}

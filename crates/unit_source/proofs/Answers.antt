@@ -12,8 +12,7 @@ use Rattle.refusals.proofs.Wrong.{due_none, due_false, none_wrong, outcome_done,
 use Rattle.refusals.specs.declared.Refusal.{Refusal}
 use Rattle.refusals.specs.declared.Refusal.TheVariants as wrong
 use Rattle.std.specs.Prelude.{Result, Ok, Err, ⊤}
-use Rattle.shape.specs.Shape.{unit_length, offset_after, ended_by}
-use Rattle.shape.specs.declared.Shape.{Shape}
+use Rattle.shape.specs.Shape.{Shape, unit_length, offset_after, ended_by}
 use Rattle.shape.specs.declared.Adjustment.{Adjustment}
 use Rattle.unit_source.specs.Source.{adjusts, source_out_of_range, make_faults, unit_sent, source_wait_after, unit_source_after, Made, made_by, MadeOutcome, unit_source, MakesAs, Makes}
 use Rattle.unit_source.specs.Inner.{Ready}

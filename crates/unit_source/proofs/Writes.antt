@@ -4,8 +4,7 @@ use mathlib.Core.List.{List, ◌++◌}
 use Prim.Native.Nat.{ℕ, ◌-◌}
 use native.Mathlib.Omega.{arith}
 use lib.ListN.{length, take, drop}
-use Rattle.shape.specs.Shape.{held_count, run_from}
-use Rattle.shape.specs.declared.Shape.{Shape}
+use Rattle.shape.specs.Shape.{Shape, Fit, held_count, run_from}
 use Rattle.shape.specs.declared.Adjustment.{Adjustment}
 use Rattle.shape.proofs.Offsets.{held_low, run_begins}
 use Rattle.unit.specs.Unit.{head_of, run_of}
@@ -14,11 +13,11 @@ use Rattle.unit.proofs.Writing.{length_head, head_long, written_is}
 use Rattle.unit_source.specs.Source.{word_sent, unit_sent}
 use Rattle.unit_source.specs.Inner.{Ready}
 
-module _ (s : Shape) (a : Adjustment) (v : ℕ) (c n d : List ℕ) (ready : Ready s v (length c) (length n) (length d)) (from : ℕ) (from_is : from ≡ run_from s.step a) where
+module _ (s : Shape) (a : Adjustment) (v : ℕ) (c n d : List ℕ) (f : Fit s) (ready : Ready s v (length c) (length n) (length d)) (from : ℕ) (from_is : from ≡ run_from s.step a) where
   pub write_head : Head s.step from d
   write_head =
       let b = run_begins s.step a in
-      record { some = s.fits.some; behind = omega (arith, b.behind); within = omega (arith, b.before, s.fits.two, ready.unit_is) }
+      record { some = f.some; behind = omega (arith, b.behind); within = omega (arith, b.before, f.two, ready.unit_is) }
 
   module _ (sent word : ℕ) (w : List ℕ) (sent_is : sent ≡ held_count s v) (word-is : word ≡ word_sent a v) (w_is : w ≡ head_of s.step word from ++ drop from d) where
     long : length (head_of s.step word from) ≡ from
@@ -27,7 +26,7 @@ module _ (s : Shape) (a : Adjustment) (v : ℕ) (c n d : List ℕ) (ready : Read
     pub write_pour : Pour c n sent from w
     write_pour =
         let b = run_begins s.step a in
-        let k = held_low s v in
+        let k = held_low s v f in
         let l : length w ≡ length d = head_long (head_of s.step word from) d w from w_is long write_head.within in
         record {
           within = omega (arith, write_head.within);

@@ -5,8 +5,7 @@ use Rattle.word.specs.Word.{plain_word, inverted_word, bits_i, bits_d}
 use Rattle.refusals.specs.Refusals.{Fault, answer_says, given, said_by, outcome}
 use Rattle.refusals.specs.declared.Refusal.{Refusal}
 use Rattle.refusals.specs.declared.Refusal.TheVariants as wrong
-use Rattle.shape.specs.Shape.{unit_length, held_count, offset_after, run_from, ended_by}
-use Rattle.shape.specs.declared.Shape.{Shape}
+use Rattle.shape.specs.Shape.{Shape, unit_length, held_count, offset_after, run_from, ended_by}
 use Rattle.shape.specs.declared.Adjustment.{Adjustment}
 use Rattle.shape.specs.declared.Adjustment.TheVariants.{Nothing, Increment, Decrement}
 use Rattle.unit.specs.Unit.{head_of, run_of}

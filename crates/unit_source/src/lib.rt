@@ -4,6 +4,7 @@
 
 ghost use Rattle.std.specs.Prelude.{◌≡◌, length};
 ghost use Rattle.shape.specs.Shape.{au4};
+ghost use Rattle.shape.specs.Numbers.{numbers};
 ghost use Rattle.refusals.specs.Refusals.{answer_of};
 ghost use Rattle.unit_source.specs.Source.{fresh_unit_source, adjusts, source_out_of_range, make_faults, word_sent, unit_sent, source_wait_after, made_by, MakesAs, Makes};
 ghost use Rattle.unit_source.specs.Inner.{Ready};
@@ -47,7 +48,7 @@ fn answer(
     next: usize,
     unit: usize,
 ) -> Result<(), Refusal>
-    ensures { result ≡ answer_of (make_faults shape s a current next unit) }
+    ensures { result ≡ answer_of (make_faults (numbers shape) s a current next unit) }
 {
     if out_of_range(shape.top, s) {
         return Err(Refusal::State);
@@ -78,8 +79,8 @@ fn word_sent(a: Adjustment, offset: u16) -> u16
 
 // The whole unit of a source at an offset.
 fn write(shape: Shape, a: Adjustment, offset: u16, current: &[u8], next: &[u8], unit: &mut [u8])
-    requires { Ready shape offset (length current.now) (length next.now) (length unit.old) }
-    ensures { unit.new ≡ unit_sent shape a offset current.now next.now }
+    requires { Ready (numbers shape) offset (length current.now) (length next.now) (length unit.old) }
+    ensures { unit.new ≡ unit_sent (numbers shape) a offset current.now next.now }
 {
     let from = shape.run_from(a);
     let sent = shape.held_count(offset);
@@ -106,7 +107,7 @@ fn make(
     next: &[u8],
     unit: &mut [u8],
 ) -> Result<u8, Refusal>
-    ensures { MakesAs shape s.old a current.now next.now unit.old (made_by result s.new) unit.new }
+    ensures { MakesAs (numbers shape) s.old a current.now next.now unit.old (made_by result s.new) unit.new }
 {
     let before = *s;
     answer(shape, before, a, current.len(), next.len(), unit.len())?;

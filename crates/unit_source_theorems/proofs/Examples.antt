@@ -5,9 +5,7 @@ use mathlib.Core.List.{List, [], ◌∷◌, map}
 use Prim.Native.Nat.{ℕ}
 use native.Mathlib.Omega.{arith}
 use lib.ListN.{take, replicate}
-use Rattle.shape.specs.Fits.{Fits}
-use Rattle.shape.specs.Shape.{au4}
-use Rattle.shape.specs.declared.Shape.{Shape}
+use Rattle.shape.specs.Shape.{Shape, au4, Fit}
 use Rattle.shape.specs.declared.Adjustment.{Adjustment}
 use Rattle.shape.specs.declared.Adjustment.TheVariants.{Nothing, Increment, Decrement}
 use Rattle.unit_source.specs.Source.{fresh_unit_source, unit_sent}
@@ -32,11 +30,11 @@ heads = refl
 
 -- ---- a run
 
-pub small_fits : Fits 1 9 8 1
-small_fits = record { some = omega arith; fills = refl; nine = refl; two = omega arith; ten = omega arith; low = omega arith }
-
 abbrev pub small : Shape
-small = record { step = 1; size = 9; top = 8; columns = 1; fits = small_fits }
+small = record { step = 1; size = 9; top = 8; columns = 1 }
+
+pub small_fit : Fit small
+small_fit = record { some = omega arith; fills = refl; nine = refl; two = omega arith; ten = omega arith; low = omega arith }
 
 -- container i is nine bytes of i
 pub box : ℕ → List ℕ

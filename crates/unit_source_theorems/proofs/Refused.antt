@@ -7,7 +7,7 @@ use Rattle.refusals.specs.Refusals.{answer_of}
 use Rattle.refusals.specs.declared.Refusal.{Refusal}
 use Rattle.std.specs.Prelude.{Result, Ok, Err, ⊤}
 use Rattle.refusals.proofs.Wrong.{outcome_answer}
-use Rattle.shape.specs.declared.Shape.{Shape}
+use Rattle.shape.specs.Shape.{Shape}
 use Rattle.shape.specs.declared.Adjustment.{Adjustment}
 use Rattle.unit_source.specs.Source.{MadeOutcome, make_faults, unit_source}
 use Rattle.unit_source.specs.declared.State.{State}

@@ -13,8 +13,7 @@ use Rattle.laws.proofs.Tests.{by_test}
 use Rattle.refusals.specs.Refusals.{answer_of}
 use Rattle.refusals.specs.declared.Refusal.{Refusal}
 use Rattle.std.specs.Prelude.{Result, Ok, Err, ⊤}
-use Rattle.shape.specs.Shape.{unit_length, held_count, offset_after, run_from, ended_by}
-use Rattle.shape.specs.declared.Shape.{Shape}
+use Rattle.shape.specs.Shape.{Shape, Fit, unit_length, held_count, offset_after, run_from, ended_by}
 use Rattle.shape.specs.declared.Adjustment.{Adjustment}
 use Rattle.shape.specs.declared.Adjustment.TheVariants.{Nothing, Increment, Decrement}
 use Rattle.shape.proofs.Offsets.{held_low, run_begins}
@@ -79,15 +78,16 @@ ended_few Increment v = by_test (λ (n : ℕ). n ≤ 2) (eqb v 0) (λ _. omega a
 ended_few Decrement v = by_test (λ (n : ℕ). n ≤ 2) (eqb v 1) (λ _. omega arith) (λ _. omega arith)
 
 -- a unit from where its run begins
-pub unit_run : (s : Shape) (a : Adjustment) (v : ℕ) (current next : List ℕ) → drop (run_from s.step a) (unit_sent s a v current next) ≡ run_of (unit_length s - run_from s.step a) (held_count s v) current next
+pub unit_run : (s : Shape) (a : Adjustment) (v : ℕ) (current next : List ℕ) → Fit s
+    → drop (run_from s.step a) (unit_sent s a v current next) ≡ run_of (unit_length s - run_from s.step a) (held_count s v) current next
 unfolding unit_sent
-unit_run s a v current next =
+unit_run s a v current next f =
     let from = run_from s.step a in
     let behind = (run_begins s.step a).behind in
     drop_at (head_of s.step (word_sent a v) from) (run_of (unit_length s - from) (held_count s v) current next) from
-    (length_head s.step (word_sent a v) from s.fits.some behind)
+    (length_head s.step (word_sent a v) from f.some behind)
 
-module _ (s : Shape) (box : ℕ → List ℕ) where
+module _ (s : Shape) (f : Fit s) (box : ℕ → List ℕ) where
   -- what a call that left o carried, whether it was done or refused
   pub record Carried (x : Sending) (a : Adjustment) (o : MadeOutcome) : Type 0 where
     pub bytes : under_way s box x ++ share_in s box a o.made.answer o.unit
@@ -106,15 +106,15 @@ module _ (s : Shape) (box : ℕ → List ℕ) where
       let begins = run_begins s.step a in
       let n = held_count s v in
       let room = unit_length s - from in
-      let low = held_low s v in
-      let then = held_low s (offset_after s.top a v) in
-      let e = balance s a v r.offset_low in
+      let low = held_low s v f in
+      let then = held_low s (offset_after s.top a v) f in
+      let e = balance s a v f r.offset_low in
       let k = ended_few a v in
       record {
         bytes =
-            ap (λ (y : List ℕ). take n b ++ y) (unit_run s a v b c)
+            ap (λ (y : List ℕ). take n b ++ y) (unit_run s a v b c f)
             ∙ run_joined b c n room (omega (arith, low, r.current_is))
-            ∙ cut_both box x.number s.size r.current_is r.next_is (ended_by a v) (held_count s (offset_after s.top a v)) (n + room) (omega (arith, e, begins.before, s.fits.two)) (omega (arith, low, begins.behind, s.fits.two)) (omega (arith, then, s.fits.some));
+            ∙ cut_both box x.number s.size r.current_is r.next_is (ended_by a v) (held_count s (offset_after s.top a v)) (n + room) (omega (arith, e, begins.before, f.two)) (omega (arith, low, begins.behind, f.two)) (omega (arith, then, f.some));
         whole = length_both box x.number s.size r.current_is r.next_is (ended_by a v) k;
       }
 
@@ -179,7 +179,7 @@ module _ (s : Shape) (box : ℕ → List ℕ) where
       ap length (shares_joined x row) ∙ length-append (joined box x.number k) (under_way s box y) ∙ ap (λ (n : ℕ). n + length (under_way s box y)) (joined_long x row)
       in
       let m : length (under_way s box y) ≤ held_count s y.state.offset = rw (length-take (held_count s y.state.offset) (box y.number)) (omega arith) in
-      record { enough = omega arith; less = omega (arith, held_low s y.state.offset, s.fits.some, suc-mul k s.size) }
+      record { enough = omega arith; less = omega (arith, held_low s y.state.offset f, f.some, suc-mul k s.size) }
 
   -- The count is right: the last byte of a container was sent exactly if it is among those that were said to have ended.
   pub ended_right : (x : Sending) (row : List Adjustment) (i : ℕ)

@@ -9,8 +9,7 @@ use lib.ListN.{length, length-append, length-take, length-drop}
 use borrow.Author.Tests.{ltb-false, le-ltb, eq-eqb}
 use Rattle.refusals.specs.declared.Refusal.TheVariants as wrong
 use Rattle.std.specs.Prelude.{Ok}
-use Rattle.shape.specs.Shape.{unit_length, run_from, ended_by}
-use Rattle.shape.specs.declared.Shape.{Shape}
+use Rattle.shape.specs.Shape.{Shape, Fit, unit_length, run_from, ended_by}
 use Rattle.shape.specs.declared.Adjustment.{Adjustment}
 use Rattle.shape.specs.declared.Adjustment.TheVariants.{Nothing, Increment, Decrement}
 use Rattle.shape.proofs.Offsets.{after_low, held_low, run_begins}
@@ -39,15 +38,15 @@ wait_stops Nothing wait = omega arith
 wait_stops Increment wait = omega arith
 wait_stops Decrement wait = omega arith
 
-module _ (s : Shape) (box : ℕ → List ℕ) where
+module _ (s : Shape) (f : Fit s) (box : ℕ → List ℕ) where
   -- a unit that is written has its length
   pub unit_long : (x : Sending) (a : Adjustment) → Fine s box x → length (unit_sent s a x.state.offset (box x.number) (box (x.number + 1))) ≡ unit_length s
   unfolding unit_sent run_of
   unit_long x a h =
       let b = run_begins s.step a in
-      let head = length_head s.step (word_sent a x.state.offset) (run_from s.step a) s.fits.some b.behind in
+      let head = length_head s.step (word_sent a x.state.offset) (run_from s.step a) f.some b.behind in
       simp (length-append, head, length-take, length-drop)
-      (omega (arith, b.behind, b.before, s.fits.two, held_low s x.state.offset, h.full x.number, h.full (x.number + 1)))
+      (omega (arith, b.behind, b.before, f.two, held_low s x.state.offset f, h.full x.number, h.full (x.number + 1)))
 
   -- a call whose adjustment does not come too soon is done
   pub call_done : (x : Sending) (a : Adjustment) → Fine s box x → (adjusts a && ltb x.state.wait 3) ≡ false

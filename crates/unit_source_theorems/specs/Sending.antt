@@ -1,6 +1,6 @@
 -- A unit source called again and again: it is given its containers in order, the next ones after as many as it says ended, and the buffer of one unit is lent again for the next.
 use Rattle.std.specs.Prelude.{ℕ, ◌+◌, List}
-use Rattle.shape.specs.declared.Shape.{Shape}
+use Rattle.shape.specs.Shape.{Shape}
 use Rattle.shape.specs.declared.Adjustment.{Adjustment}
 use Rattle.unit_source.specs.Source.{MadeOutcome, unit_source}
 use Rattle.unit_source.specs.declared.State.{State}

@@ -1,8 +1,7 @@
 -- What the units of a source carry, call after call: the theorems about its stream speak of this.
 use Rattle.std.specs.Prelude.{ℕ, zero, suc, ◌+◌, ◌*◌, ◌≤◌, Bool, true, false, ◌&&◌, not, ltb, List, [], ◌∷◌, ◌++◌, length, take, drop, Result, Ok, Err, ⊤}
 use Rattle.refusals.specs.declared.Refusal.{Refusal}
-use Rattle.shape.specs.Shape.{held_count, run_from}
-use Rattle.shape.specs.declared.Shape.{Shape}
+use Rattle.shape.specs.Shape.{Shape, held_count, run_from}
 use Rattle.shape.specs.declared.Adjustment.{Adjustment}
 use Rattle.unit_source.specs.Source.{adjusts, source_wait_after}
 use Rattle.unit_source_theorems.specs.Sending.{Sending, unit_source_called, sending_after}

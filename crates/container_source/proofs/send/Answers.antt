@@ -4,6 +4,7 @@ use Rattle.std.proofs.Common.{Ok}
 use Rattle.std.proofs.lemmas.Result.{err_from_is_err_and}
 use Rattle.std.specs.Result.{result_from_control_flow}
 use Rattle.container_source.proofs.SourceLaws.{send_refused, sent_place, sent_violations, sent_payload, sent_container, next_fits, send_done}
+use Rattle.shape.specs.Numbers.{numbers}
 use Rattle.container_source.proofs.send.Goals as goal
 
 pub returns-in_err-answer : goal.returns-in_err-answer
@@ -19,7 +20,7 @@ overhead-o-requires c =
 pub rows-requires : goal.rows-requires
 rows-requires c =
     let done : c.answer.result ≡ Ok tt = c.branch-answer.ensures ∙ ap result_from_control_flow c.in_ok-answer.is in
-    search (sent_payload, sent_container)
+    search (sent_payload (numbers c.args.shape), sent_container (numbers c.args.shape))
 
 pub overflow_add-place : goal.overflow_add-place
 overflow_add-place c =

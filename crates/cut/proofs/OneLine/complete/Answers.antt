@@ -2,6 +2,7 @@
 use Rattle.cut.proofs.Copies.{untouched, lack_within, completed_is}
 use native.Mathlib.Omega.{arith}
 use lib.ListN.{length-take}
+use Rattle.shape.specs.Numbers.{numbers}
 use Rattle.cut.proofs.OneLine.complete.Goals as goal
 
 pub returns-then-kept-eq0 : goal.returns-then-kept-eq0
@@ -17,7 +18,7 @@ pub copy_long-requires : goal.copy_long-requires
 copy_long-requires c = simp length-take (omega arith)
 
 pub slice_bounds-copy_part-end : goal.slice_bounds-copy_part-end
-slice_bounds-copy_part-end c = search lack_within
+slice_bounds-copy_part-end c = search (lack_within (numbers c.args.self.shape))
 
 pub returns : goal.returns
 returns c = search completed_is fits 20000
