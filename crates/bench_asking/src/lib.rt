@@ -128,11 +128,16 @@ fn export<P: Print>(out: &mut Output<P>, s: &[u8]) {
     }
 }
 
-// The question that a line asks is answered; none where it asks none.
-pub fn answer<P: Print>(out: &mut Output<P>, words: &[&[u8]]) -> Option<()> {
-    let (question, hex) = Question::of(words)?;
-    // all the bytes that the longest line can give
+// A question is answered; none where its bytes are not understood. The buffer, for all the bytes that the longest line can give, is filled at each call: so a line that asks
+// nothing does not come here.
+fn answer_in_hex<P: Print>(out: &mut Output<P>, question: Question, hex: &[u8]) -> Option<()> {
     let mut bytes = [0u8; 50000];
     question.answer(out, bench_script::bytes(hex, &mut bytes)?);
     Some(())
+}
+
+// The question that a line asks is answered; none where it asks none.
+pub fn answer<P: Print>(out: &mut Output<P>, words: &[&[u8]]) -> Option<()> {
+    let (question, hex) = Question::of(words)?;
+    answer_in_hex(out, question, hex)
 }
