@@ -2,7 +2,8 @@
 // The definitions stand in specs/Message.antt. The container source, the sink's trace machine, the catalogue and the card's host rest on this crate.
 #![tactic(auto)]
 
-ghost use Rattle.std.specs.Prelude.{◌≡◌, ◌<◌};
+ghost use Rattle.std.specs.Prelude.{◌≡◌, ◌<◌, ◌≤◌, ◌+◌, length, take, drop};
+ghost use Rattle.std.specs.Int.{w64, from_le_bytes, to_le_bytes};
 ghost use Rattle.trace_message.specs.Message.{check7, start_byte, top_bits_clear, good_message, trace_check, alike};
 ghost use Rattle.trace_message.specs.InnerRegister.{bits_in, bytes_in, reduced};
 
@@ -76,14 +77,37 @@ pub fn trace_check(s: &[u8]) -> bool
     good_message(s[0], &s[1..])
 }
 
+// The eight bytes from a place on as one number, which gives them back: two such numbers are the same where the bytes are.
+fn eight(s: &[u8], at: usize) -> u64
+    requires { at + 8 ≤ length s.now }
+    ensures { (result ≡ from_le_bytes w64 (take 8 (drop at s.now)))
+        × (to_le_bytes w64 result ≡ take 8 (drop at s.now)) }
+{
+    u64::from_le_bytes([
+        s[at],
+        s[at + 1],
+        s[at + 2],
+        s[at + 3],
+        s[at + 4],
+        s[at + 5],
+        s[at + 6],
+        s[at + 7],
+    ])
+}
+
 // Whether two traces are the same, byte for byte and as long: a trailing space is a byte like any other.
-// Every byte is looked at, with no way out of the loop, so that the compiler can take many at a time.
-// Kept: with `x == y` the check of a catalogue of 512 records takes 3.0 times as long (1252 ns a record for 415), and the sink 1.08.
+// The fifteen bytes of a trace are compared as two numbers, the first eight and the last eight, so that most pairs take one jump.
+// Byte by byte they take four, and by where these come to lie alone the check of 512 records takes up to TODO-FIGURES times as long.
+// Of any other length every byte is looked at, with no way out of the loop, so that the compiler can take many at a time.
+// Kept: with `x == y` the check of a catalogue of 512 records takes TODO-FIGURES times as long (TODO-FIGURES ns a record for TODO-FIGURES), and the sink TODO-FIGURES.
 pub fn same(x: &[u8], y: &[u8]) -> bool
     ensures { result ≡ alike x.now y.now }
 {
     if x.len() != y.len() {
         return false;
+    }
+    if x.len() == 15 {
+        return (eight(x, 0) == eight(y, 0)) & (eight(x, 7) == eight(y, 7));
     }
     let mut all = true;
     for (i, b) in x.iter().enumerate() {
