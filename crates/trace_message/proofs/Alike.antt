@@ -60,12 +60,14 @@ module _ (x y : List ℕ) (p q r s : ℕ) (l : length x ≡ 15) (k : length y �
       let rest : drop 8 x ≡ drop 8 y = sym (drop-drop 1 7 x) ∙ ap (drop 1) last ∙ drop-drop 1 7 y in
       sym (take-append-drop 8 x) ∙ ap (λ z. z ++ drop 8 x) first ∙ ap (λ z. take 8 y ++ z) rest ∙ take-append-drop 8 y
 
+  numbers : x ≡ y → (eqb p q && eqb r s) ≡ true
+  numbers e =
+      both_true
+      (eq-eqb p q (a.0 ∙ ap (λ z. from_le_bytes w64 (take 8 z)) e ∙ sym b.0))
+      (eq-eqb r s (c.0 ∙ ap (λ z. from_le_bytes w64 (take 8 (drop 7 z))) e ∙ sym d.0))
+
   pub alike_fifteen : (eqb p q && eqb r s) ≡ alike x y
   alike_fifteen =
       both_ways (eqb p q && eqb r s) (alike x y)
       (λ e. same_alike x y (fifteen (eqb-true p q (and_left (eqb p q) (eqb r s) e)) (eqb-true r s (and_right (eqb p q) (eqb r s) e))))
-      (λ e.
-      let same = alike_same x y e in
-      both_true
-      (eq-eqb p q (a.0 ∙ ap (λ z. from_le_bytes w64 (take 8 z)) same ∙ sym b.0))
-      (eq-eqb r s (c.0 ∙ ap (λ z. from_le_bytes w64 (take 8 (drop 7 z))) same ∙ sym d.0)))
+      (λ e. numbers (alike_same x y e))

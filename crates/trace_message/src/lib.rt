@@ -96,8 +96,8 @@ fn eight(s: &[u8], at: usize) -> u64
 }
 
 // Whether two traces are the same, byte for byte and as long: a trailing space is a byte like any other.
-// The fifteen bytes of a trace are compared as two numbers, the first eight and the last eight, so that most pairs take one jump.
-// Byte by byte they take four, and by where these come to lie alone the check of 512 records takes up to TODO-FIGURES times as long.
+// The fifteen bytes of a trace are compared as two numbers, the first eight and the last eight, which share a byte. This is for speed: a pair takes one jump or two.
+// Byte by byte it takes up to four, and by where these lie alone the check of 512 records takes up to TODO-FIGURES times as long.
 // Of any other length every byte is looked at, with no way out of the loop, so that the compiler can take many at a time.
 // Kept: with `x == y` the check of a catalogue of 512 records takes TODO-FIGURES times as long (TODO-FIGURES ns a record for TODO-FIGURES), and the sink TODO-FIGURES.
 pub fn same(x: &[u8], y: &[u8]) -> bool
