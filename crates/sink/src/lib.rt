@@ -169,10 +169,9 @@ fn feed(
 ) -> Result<Report, Refusal>
     ensures { ReceivesAs (numbers shape) s.old e unit.now held.old done.old (received_by result s.new) held.new done.new }
 {
-    let before = *s;
-    answer(shape, before, e, unit.len(), held.len(), done.len())?;
-    let a = point(shape, before.pointer, unit);
-    let u = take_unit(shape, before, a, e, unit, held, done);
+    answer(shape, *s, e, unit.len(), held.len(), done.len())?;
+    let a = point(shape, s.pointer, unit);
+    let u = take_unit(shape, *s, a, e, unit, held, done);
     Ok(tell(s, a.pointer, u, e))
 }
 
