@@ -3,9 +3,10 @@
 use mathlib.Core.Path.{◌≡◌, refl}
 use mathlib.Core.Bool.{true, cond}
 use mathlib.Core.List.{[], ◌∷◌}
+use native.Mathlib.Omega.{arith}
 use lib.Dec.{eqb}
 use lib.ListN.{replicate}
-use Rattle.shape.specs.Shape.{Shape}
+use Rattle.shape.specs.Shape.{Shape, Fit}
 use Rattle.shape.specs.declared.Adjustment.TheVariants.{Nothing, Increment}
 use Rattle.sink.specs.Sink.{fresh_sink}
 use Rattle.settles.specs.Demand.{Run, path_at, received_at, handed_at}
@@ -14,6 +15,10 @@ use Rattle.settles.proofs.Opened.{opened}
 -- nine rows of two bytes, and a byte a step
 abbrev small : Shape
 small = record { step = 1; size = 18; top = 17; columns = 2 }
+
+-- they fit each other
+pub small_fit : Fit small
+small_fit = record { some = omega arith; fills = refl; nine = refl; two = omega arith; ten = omega arith; low = omega arith }
 
 -- a source at 17 that goes up to 0 in the fifth unit, and a fresh sink
 abbrev run : Run
