@@ -16,7 +16,7 @@ use Rattle.settles.proofs.Opened.{opened}
 abbrev small : Shape
 small = record { step = 1; size = 18; top = 17; columns = 2 }
 
--- they fit each other
+-- its numbers fit each other
 pub small_fit : Fit small
 small_fit = record { some = omega arith; fills = refl; nine = refl; two = omega arith; ten = omega arith; low = omega arith }
 
